@@ -1,0 +1,13 @@
+# make test: all checks. make run: prove, build and run the main program on its sample.
+.PHONY: test run fmt
+
+test:
+	rt fmt --check
+	rt ci
+
+run:
+	rt check vectors
+	target/bin/vectors
+
+fmt:
+	rt fmt

@@ -1,0 +1,75 @@
+-- Each test of equality says equality: true means equal, and a value equals itself.
+use mathlib.Core.Path.{_≡_, refl}
+use mathlib.Core.Bool.{Bool, true, false, false≢true}
+use lib.Dec.{eqb}
+use borrow.Author.Tests.{eqb-true, eq-eqb}
+use Rattle.choice.proofs.Laws.{both-parts, both-true}
+use Rattle.address.specs.declared.Address.{Address}
+use Rattle.address.specs.declared.Address.the-variants.{V4, V6}
+use Rattle.address.specs.declared.Peer.{Peer}
+use Rattle.address.specs.declared.FiveTuple.{FiveTuple}
+use Rattle.address.specs.declared.TransactionId.{TransactionId}
+use Rattle.address.specs.Address.{sameAddress, samePeer, sameFiveTuple, sameTransactionId}
+
+pub address-same : (a b : Address) → sameAddress a b ≡ true → a ≡ b
+unfolding sameAddress
+address-same (V4 a) (V4 b) e = let p : a ≡ b = eqb-true a b e in cc
+address-same (V4 a) (V6 e f g h) n = absurd (false≢true n)
+address-same (V6 a b c d) (V4 e) n = absurd (false≢true n)
+address-same (V6 a b c d) (V6 e f g h) n =
+    let x = both-parts _ _ n in
+    let y = both-parts _ _ (x .1) in
+    let z = both-parts _ _ (y .1) in
+    let p : a ≡ e = eqb-true _ _ (x .0) in
+    let q : b ≡ f = eqb-true _ _ (y .0) in
+    let r : c ≡ g = eqb-true _ _ (z .0) in
+    let s : d ≡ h = eqb-true _ _ (z .1) in
+    cc
+
+pub address-refl : (a : Address) → sameAddress a a ≡ true
+unfolding sameAddress
+address-refl (V4 a) = eq-eqb a a refl
+address-refl (V6 a b c d) =
+    both-true _ _ (eq-eqb a a refl) (both-true _ _ (eq-eqb b b refl) (both-true _ _ (eq-eqb c c refl) (eq-eqb d d refl)))
+
+pub peer-same : (a b : Peer) → samePeer a b ≡ true → a ≡ b
+unfolding samePeer
+peer-same a b e =
+    let x = both-parts _ _ e in
+    let p = address-same _ _ (x .0) in
+    let q : a .port ≡ b .port = eqb-true _ _ (x .1) in
+    λ i. record { address = p i; port = q i }
+
+pub peer-refl : (a : Peer) → samePeer a a ≡ true
+unfolding samePeer
+peer-refl a = both-true _ _ (address-refl (a .address)) (eq-eqb (a .port) (a .port) refl)
+
+pub five-tuple-same : (a b : FiveTuple) → sameFiveTuple a b ≡ true → a ≡ b
+unfolding sameFiveTuple
+five-tuple-same a b e =
+    let x = both-parts _ _ e in
+    let y = both-parts _ _ (x .1) in
+    let p = peer-same _ _ (x .0) in
+    let q = peer-same _ _ (y .0) in
+    let r : a .protocol ≡ b .protocol = eqb-true _ _ (y .1) in
+    λ i. record { client = p i; server = q i; protocol = r i }
+
+pub five-tuple-refl : (a : FiveTuple) → sameFiveTuple a a ≡ true
+unfolding sameFiveTuple
+five-tuple-refl a =
+    both-true _ _ (peer-refl (a .client)) (both-true _ _ (peer-refl (a .server)) (eq-eqb (a .protocol) (a .protocol) refl))
+
+pub transaction-id-same : (a b : TransactionId) → sameTransactionId a b ≡ true → a ≡ b
+unfolding sameTransactionId
+transaction-id-same a b e =
+    let x = both-parts _ _ e in
+    let y = both-parts _ _ (x .1) in
+    let p : a .high ≡ b .high = eqb-true _ _ (x .0) in
+    let q : a .middle ≡ b .middle = eqb-true _ _ (y .0) in
+    let r : a .low ≡ b .low = eqb-true _ _ (y .1) in
+    λ i. record { high = p i; middle = q i; low = r i }
+
+pub transaction-id-refl : (a : TransactionId) → sameTransactionId a a ≡ true
+unfolding sameTransactionId
+transaction-id-refl a =
+    both-true _ _ (eq-eqb (a .high) (a .high) refl) (both-true _ _ (eq-eqb (a .middle) (a .middle) refl) (eq-eqb (a .low) (a .low) refl))

@@ -1,0 +1,20 @@
+-- Numbers in network order, at any width, and what it means that bytes were written at the front of a buffer.
+use Prim.Native.Nat.{ℕ, zero, suc, _+_, _*_, _/_, _%_, _^_, _≤_}
+use mathlib.Core.Path.{_≡_}
+use mathlib.Core.List.{List, [], _∷_, _++_}
+use lib.ListN.{length, getD, drop}
+
+-- the number in the w bytes of s from at, the highest first
+unfoldable pub num : List ℕ → ℕ → ℕ → ℕ
+num s at zero = 0
+num s at (suc w) = getD s at 0 * 256 ^ w + num s (at + 1) w
+
+-- n in w bytes, the highest first
+unfoldable pub bytesOf : ℕ → ℕ → List ℕ
+bytesOf zero n = []
+bytesOf (suc w) n = n / 256 ^ w % 256 ∷ bytesOf w n
+
+-- A was written at the front of the buffer that held before; the rest is as it was
+pub record Wrote (A before after : List ℕ) : Type 0 where
+  pub fits : length A ≤ length before
+  pub is : after ≡ A ++ drop (length A) before
