@@ -1,6 +1,6 @@
 -- The numbers of document 01's 'Reading a client's datagram', and the kinds that they stand for.
 use Prim.Native.Nat.{ℕ, _+_}
-use mathlib.Core.Bool.{_&&_}
+use mathlib.Core.Bool.{Bool, true, false, _&&_}
 use mathlib.Core.List.{List, [], _∷_}
 use lib.Dec.{leb}
 use Rattle.choice.specs.Choice.{pick, lookup}
@@ -53,7 +53,7 @@ messageKinds =
 abbrev pub messageKindOf : ℕ → MessageKind
 messageKindOf n = lookup n messageKinds Other
 
--- 'Attributes read', and then 'Known and skipped'; 0x0008 and 0x001C also end what is read
+-- 'Attributes read', and then 'Known and skipped'
 abbrev pub attributeKinds : List (ℕ × AttributeKind)
 attributeKinds =
     (0x000c, Is.ChannelNumber)
@@ -64,13 +64,13 @@ attributeKinds =
     ∷ (0x0019, Is.RequestedTransport)
     ∷ (0x0001, Is.Skipped)
     ∷ (0x0006, Is.Skipped)
-    ∷ (0x0008, Is.Integrity)
+    ∷ (0x0008, Is.Skipped)
     ∷ (0x0009, Is.Skipped)
     ∷ (0x000a, Is.Skipped)
     ∷ (0x0014, Is.Skipped)
     ∷ (0x0015, Is.Skipped)
     ∷ (0x0016, Is.Skipped)
-    ∷ (0x001c, Is.Integrity)
+    ∷ (0x001c, Is.Skipped)
     ∷ (0x001d, Is.Skipped)
     ∷ (0x001e, Is.Skipped)
     ∷ (0x0020, Is.Skipped)
@@ -79,3 +79,13 @@ attributeKinds =
 -- 'Other types below 0x8000 are unknown; 0x8000 and above are skipped.'
 unfoldable pub attributeKindOf : ℕ → AttributeKind
 attributeKindOf n = lookup n attributeKinds (pick (leb 0x8000 n) Is.Skipped Is.Unknown)
+
+abbrev pub unknownKind : AttributeKind → Bool
+unknownKind Is.ChannelNumber = false
+unknownKind Is.Lifetime = false
+unknownKind Is.XorPeerAddress = false
+unknownKind Is.Data = false
+unknownKind Is.RequestedAddressFamily = false
+unknownKind Is.RequestedTransport = false
+unknownKind Is.Skipped = false
+unknownKind Is.Unknown = true

@@ -1,6 +1,6 @@
 // The kinds of datagrams, messages and attributes, with the numbers that stand for them.
 ghost use mathlib.Core.Path.{_≡_};
-ghost use Rattle.stun.specs.Kinds.{classOf, messageKindOf, attributeKindOf, successType, errorType};
+ghost use Rattle.stun.specs.Kinds.{classOf, messageKindOf, attributeKindOf, unknownKind, successType, errorType};
 
 // What the first byte says of a datagram.
 pub enum Class {
@@ -123,8 +123,6 @@ pub enum AttributeKind {
     Data,
     RequestedAddressFamily,
     RequestedTransport,
-    // MESSAGE-INTEGRITY and MESSAGE-INTEGRITY-SHA256: skipped, and what follows is ignored.
-    Integrity,
     Skipped,
     Unknown,
 }
@@ -180,13 +178,13 @@ impl AttributeKind {
             AttributeKind::REQUESTED_TRANSPORT => AttributeKind::RequestedTransport,
             AttributeKind::MAPPED_ADDRESS => AttributeKind::Skipped,
             AttributeKind::USERNAME => AttributeKind::Skipped,
-            AttributeKind::MESSAGE_INTEGRITY => AttributeKind::Integrity,
+            AttributeKind::MESSAGE_INTEGRITY => AttributeKind::Skipped,
             AttributeKind::ERROR_CODE => AttributeKind::Skipped,
             AttributeKind::UNKNOWN_ATTRIBUTES => AttributeKind::Skipped,
             AttributeKind::REALM => AttributeKind::Skipped,
             AttributeKind::NONCE => AttributeKind::Skipped,
             AttributeKind::XOR_RELAYED_ADDRESS => AttributeKind::Skipped,
-            AttributeKind::MESSAGE_INTEGRITY_SHA256 => AttributeKind::Integrity,
+            AttributeKind::MESSAGE_INTEGRITY_SHA256 => AttributeKind::Skipped,
             AttributeKind::PASSWORD_ALGORITHM => AttributeKind::Skipped,
             AttributeKind::USERHASH => AttributeKind::Skipped,
             AttributeKind::XOR_MAPPED_ADDRESS => AttributeKind::Skipped,
@@ -197,6 +195,21 @@ impl AttributeKind {
                     AttributeKind::Unknown
                 }
             }
+        }
+    }
+
+    pub fn is_unknown(self) -> bool
+        ensures { λ r. ⌜ r ≡ unknownKind self ⌝ }
+    {
+        match self {
+            AttributeKind::ChannelNumber => false,
+            AttributeKind::Lifetime => false,
+            AttributeKind::XorPeerAddress => false,
+            AttributeKind::Data => false,
+            AttributeKind::RequestedAddressFamily => false,
+            AttributeKind::RequestedTransport => false,
+            AttributeKind::Skipped => false,
+            AttributeKind::Unknown => true,
         }
     }
 }
