@@ -1,6 +1,7 @@
 // An allocation: fresh, live, and whether it is one that a search over the slots looks for.
 use crate::Allocation;
 use crate::fresh_peer;
+use crate::is_live;
 use address::FiveTuple;
 use address::same_five_tuple;
 use choice::both;
@@ -27,7 +28,7 @@ pub fn fresh_allocation() -> Allocation
 pub fn allocation_is_live(time: u64, allocation: Allocation) -> bool
     ensures { λ r. ⌜ r ≡ liveAllocation time allocation ⌝ }
 {
-    time < allocation.expiry
+    is_live(time, allocation.expiry)
 }
 
 // Whether the allocation is live and has the 5-tuple.

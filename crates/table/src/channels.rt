@@ -5,6 +5,7 @@ use crate::Placed;
 use crate::Slot;
 use crate::fresh_peer;
 use crate::has;
+use crate::is_live;
 use crate::or_else;
 use address::Peer;
 use address::same_peer;
@@ -12,7 +13,8 @@ use choice::both;
 ghost use mathlib.Core.Path.{_≡_};
 ghost use Prim.Native.Nat.{_≤_, _^_};
 ghost use Rattle.table.specs.Search.{find, place, atOr};
-ghost use Rattle.table.specs.Table.{freshChannel, isChannelNumber, liveChannel, freeChannel, numbered, leadsTo, numberTaken, peerTaken, channelEntry, bind};
+ghost use Rattle.table.specs.Table.{freshChannel, isChannelNumber, liveChannel, freeChannel, numbered, leadsTo};
+ghost use Rattle.table.specs.Table.{numberTaken, peerTaken, channelEntry, bind};
 
 pub fn fresh_channel() -> Channel
     ensures { λ r. ⌜ r ≡ freshChannel ⌝ }
@@ -34,10 +36,13 @@ pub fn is_channel_number(number: u16) -> bool
 pub fn channel_is_live(time: u64, channel: Channel) -> bool
     ensures { λ r. ⌜ r ≡ liveChannel time channel ⌝ }
 {
-    both(time < channel.expiry, is_channel_number(channel.number))
+    both(
+        is_live(time, channel.expiry),
+        is_channel_number(channel.number),
+    )
 }
 
-pub fn channel_is_free(time: u64, channel: Channel) -> bool
+fn channel_is_free(time: u64, channel: Channel) -> bool
     ensures { λ r. ⌜ r ≡ freeChannel time channel ⌝ }
 {
     !channel_is_live(time, channel)
@@ -91,16 +96,16 @@ pub fn channel_by_peer(time: u64, peer: Peer, channels: [Channel; 8]) -> Found
 }
 
 // The lowest channel that isn't live.
-pub fn find_free_channel(time: u64, channels: [Channel; 8]) -> Found
+fn find_free_channel(time: u64, channels: [Channel; 8]) -> Found
     ensures { λ r. ⌜ r ≡ find (freeChannel time) channels ⌝ }
 {
-    let mut i: usize = 0;
-    while i < 8 {
-        let channel = channels[i];
+    let mut free: usize = 0;
+    while free < 8 {
+        let channel = channels[free];
         if channel_is_free(time, channel) {
-            return Found::At(i);
+            return Found::At(free);
         }
-        i += 1;
+        free += 1;
     }
     Found::Nothing
 }
@@ -145,7 +150,7 @@ pub fn channel_entry(time: u64, number: u16, channels: [Channel; 8]) -> Found
     or_else(live, free)
 }
 
-// The channels with one more at the place found.
+// The channels with this one at the place found.
 fn place_channel(entry: Found, channel: Channel, channels: [Channel; 8]) -> [Channel; 8]
     ensures { λ r. ⌜ r ≡ place entry channel channels ⌝ }
 {

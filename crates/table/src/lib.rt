@@ -8,7 +8,7 @@ use channels::fresh_channel;
 use permissions::fresh_permission;
 ghost use mathlib.Core.Path.{_≡_};
 ghost use Rattle.table.specs.Search.{has, orElse};
-ghost use Rattle.table.specs.Table.{freshPeer, freshSlot};
+ghost use Rattle.table.specs.Table.{live, freshPeer, freshSlot};
 
 pub mod allocations;
 pub mod channels;
@@ -53,6 +53,14 @@ pub struct Placed {
     pub slot: Slot,
 }
 
+// Whether a thing with that expiry is live; at the moment of expiry it is not.
+pub fn is_live(time: u64, expiry: u64) -> bool
+    ensures { λ r. ⌜ r ≡ live time expiry ⌝ }
+{
+    time < expiry
+}
+
+// Whether a search found one.
 pub fn has(found: Found) -> bool
     ensures { λ r. ⌜ r ≡ has found ⌝ }
 {
@@ -63,6 +71,7 @@ pub fn has(found: Found) -> bool
     }
 }
 
+// What the first search found, or else the second.
 pub fn or_else(first: Found, second: Found) -> Found
     ensures { λ r. ⌜ r ≡ orElse first second ⌝ }
 {

@@ -4,6 +4,7 @@ use crate::Permission;
 use crate::Placed;
 use crate::Slot;
 use crate::has;
+use crate::is_live;
 use crate::or_else;
 use address::Address;
 use address::same_address;
@@ -23,16 +24,16 @@ pub fn fresh_permission() -> Permission
 pub fn permission_is_live(time: u64, permission: Permission) -> bool
     ensures { λ r. ⌜ r ≡ livePermission time permission ⌝ }
 {
-    time < permission.expiry
+    is_live(time, permission.expiry)
 }
 
-pub fn permission_is_free(time: u64, permission: Permission) -> bool
+fn permission_is_free(time: u64, permission: Permission) -> bool
     ensures { λ r. ⌜ r ≡ freePermission time permission ⌝ }
 {
     !permission_is_live(time, permission)
 }
 
-// Whether the permission is live and for the IP address.
+// Whether the permission is live and for the IP address, at any port.
 pub fn permits(time: u64, address: Address, permission: Permission) -> bool
     ensures { λ r. ⌜ r ≡ permits time address permission ⌝ }
 {
@@ -59,16 +60,16 @@ pub fn find_permission(time: u64, address: Address, permissions: [Permission; 8]
 }
 
 // The lowest permission that isn't live.
-pub fn find_free_permission(time: u64, permissions: [Permission; 8]) -> Found
+fn find_free_permission(time: u64, permissions: [Permission; 8]) -> Found
     ensures { λ r. ⌜ r ≡ find (freePermission time) permissions ⌝ }
 {
-    let mut i: usize = 0;
-    while i < 8 {
-        let permission = permissions[i];
+    let mut free: usize = 0;
+    while free < 8 {
+        let permission = permissions[free];
         if permission_is_free(time, permission) {
-            return Found::At(i);
+            return Found::At(free);
         }
-        i += 1;
+        free += 1;
     }
     Found::Nothing
 }
@@ -82,7 +83,7 @@ pub fn permission_entry(time: u64, address: Address, permissions: [Permission; 8
     or_else(live, free)
 }
 
-// The permissions with one more at the place found.
+// The permissions with this one at the place found.
 fn place_permission(
     entry: Found,
     permission: Permission,

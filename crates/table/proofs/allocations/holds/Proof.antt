@@ -5,7 +5,7 @@ use Rattle.table.proofs.allocations.holds.Tie as tie
 
 returns : tie.Need-returns
 unfolding holds
-returns c = rw (← c .before .before .allocation-is-live .ensures, ← c .before .same-five-tuple .ensures, ← c .both .ensures)
+returns c = rw (c .both .ensures, c .before .same-five-tuple .ensures, c .before .before .allocation-is-live .ensures)
 
 pub holds-spec : {M : Type 1} → statement M
 holds-spec = tie.close (tie.spec (λ c. search needs) (λ c. search needs) (λ c. search needs) returns)

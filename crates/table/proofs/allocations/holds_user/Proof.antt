@@ -5,7 +5,7 @@ use Rattle.table.proofs.allocations.holds_user.Tie as tie
 
 returns : tie.Need-returns
 unfolding holdsUser
-returns c = rw (← c .before .before .allocation-is-live .ensures, ← c .both .ensures)
+returns c = rw (c .both .ensures, c .before .before .allocation-is-live .ensures)
 
 pub holds-user-spec : {M : Type 1} → statement M
 holds-user-spec = tie.close (tie.spec (λ c. search needs) (λ c. search needs) returns)

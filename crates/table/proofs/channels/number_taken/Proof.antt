@@ -5,7 +5,14 @@ use Rattle.table.proofs.channels.number_taken.Tie as tie
 
 returns : tie.Need-returns
 unfolding numberTaken
-returns c = rw (← c .before .before .before .before .channel-by-number .ensures, ← c .before .before .before .channel-at .ensures, ← c .before .before .has .ensures, ← c .before .same-peer .ensures, ← c .both .ensures)
+returns c =
+    rw (
+      c .both .ensures,
+      c .before .same-peer .ensures,
+      c .before .before .has .ensures,
+      c .before .before .before .channel-at .ensures,
+      c .before .before .before .before .channel-by-number .ensures,
+    )
 
 pub number-taken-spec : {M : Type 1} → statement M
 number-taken-spec =

@@ -5,7 +5,7 @@ use Rattle.table.proofs.channels.numbered.Tie as tie
 
 returns : tie.Need-returns
 unfolding numbered
-returns c = rw (← c .before .before .channel-is-live .ensures, ← c .both .ensures)
+returns c = rw (c .both .ensures, c .before .before .channel-is-live .ensures)
 
 pub numbered-spec : {M : Type 1} → statement M
 numbered-spec = tie.close (tie.spec (λ c. search needs) (λ c. search needs) returns)

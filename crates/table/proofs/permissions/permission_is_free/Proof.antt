@@ -5,7 +5,7 @@ use Rattle.table.proofs.permissions.permission_is_free.Tie as tie
 
 returns : tie.Need-returns
 unfolding freePermission
-returns c = rw (← c .permission-is-live .ensures)
+returns c = rw (c .permission-is-live .ensures)
 
 pub permission-is-free-spec : {M : Type 1} → statement M
 permission-is-free-spec = tie.close (tie.spec (λ c. search needs) returns)

@@ -1,11 +1,11 @@
 use Rattle.table.specs.Table.{livePermission}
-use mathlib.Core.Path.{refl}
+use borrow.Author.Needs.{needs}
 use Rattle.table.proofs.permissions.permission_is_live.Statement.{statement}
 use Rattle.table.proofs.permissions.permission_is_live.Tie as tie
 
 returns : tie.Need-returns
 unfolding livePermission
-returns c = refl
+returns c = rw (c .is-live .ensures)
 
 pub permission-is-live-spec : {M : Type 1} → statement M
-permission-is-live-spec = tie.close (tie.spec returns)
+permission-is-live-spec = tie.close (tie.spec (λ c. search needs) returns)
