@@ -1,0 +1,11 @@
+use Rattle.table.specs.Table.{bind}
+use borrow.Author.Needs.{needs}
+use Rattle.table.proofs.channels.bind.Statement.{statement}
+use Rattle.table.proofs.channels.bind.Tie as tie
+
+returns : tie.Need-returns
+unfolding bind
+returns c = rw (c .has .ensures, c .before .place-channel .ensures, c .before .before .channel-entry .ensures)
+
+pub bind-spec : {M : Type 1} → statement M
+bind-spec = tie.close (tie.spec (λ c. search needs) (λ c. search needs) (λ c. search needs) (λ c. search needs) returns)

@@ -1,0 +1,12 @@
+use Rattle.table.specs.Table.{permissionEntry}
+use Rattle.table.specs.Search.{entry}
+use borrow.Author.Needs.{needs}
+use Rattle.table.proofs.permissions.permission_entry.Statement.{statement}
+use Rattle.table.proofs.permissions.permission_entry.Tie as tie
+
+returns : tie.Need-returns
+unfolding permissionEntry entry
+returns c = rw (c .or-else .ensures, c .before .find-free-permission .ensures, c .before .before .find-permission .ensures)
+
+pub permission-entry-spec : {M : Type 1} → statement M
+permission-entry-spec = tie.close (tie.spec (λ c. search needs) (λ c. search needs) (λ c. search needs) returns)

@@ -1,0 +1,11 @@
+use Rattle.table.specs.Table.{permit}
+use borrow.Author.Needs.{needs}
+use Rattle.table.proofs.permissions.permit.Statement.{statement}
+use Rattle.table.proofs.permissions.permit.Tie as tie
+
+returns : tie.Need-returns
+unfolding permit
+returns c = rw (c .has .ensures, c .before .place-permission .ensures, c .before .before .permission-entry .ensures)
+
+pub permit-spec : {M : Type 1} → statement M
+permit-spec = tie.close (tie.spec (λ c. search needs) (λ c. search needs) (λ c. search needs) (λ c. search needs) returns)

@@ -1,0 +1,190 @@
+// A slot's channels: fresh, live, the one with a number or a peer, and the entry that takes one.
+use crate::Channel;
+use crate::Found;
+use crate::Placed;
+use crate::Slot;
+use crate::fresh_peer;
+use crate::has;
+use crate::is_live;
+use crate::or_else;
+use address::Peer;
+use address::same_peer;
+use choice::both;
+ghost use mathlib.Core.Path.{_≡_};
+ghost use Prim.Native.Nat.{_≤_, _^_};
+ghost use Rattle.table.specs.Search.{find, place, atOr};
+ghost use Rattle.table.specs.Table.{freshChannel, isChannelNumber, liveChannel, freeChannel, numbered, leadsTo};
+ghost use Rattle.table.specs.Table.{numberTaken, peerTaken, channelEntry, bind};
+
+pub fn fresh_channel() -> Channel
+    ensures { λ r. ⌜ r ≡ freshChannel ⌝ }
+{
+    let peer = fresh_peer();
+    Channel {
+        number: 0,
+        peer,
+        expiry: 0,
+    }
+}
+
+pub fn is_channel_number(number: u16) -> bool
+    ensures { λ r. ⌜ r ≡ isChannelNumber number ⌝ }
+{
+    both(0x4000 <= number, number <= 0x4fff)
+}
+
+pub fn channel_is_live(time: u64, channel: Channel) -> bool
+    ensures { λ r. ⌜ r ≡ liveChannel time channel ⌝ }
+{
+    both(
+        is_live(time, channel.expiry),
+        is_channel_number(channel.number),
+    )
+}
+
+fn channel_is_free(time: u64, channel: Channel) -> bool
+    ensures { λ r. ⌜ r ≡ freeChannel time channel ⌝ }
+{
+    !channel_is_live(time, channel)
+}
+
+// Whether the channel is live and has the number.
+pub fn numbered(time: u64, number: u16, channel: Channel) -> bool
+    ensures { λ r. ⌜ r ≡ numbered time number channel ⌝ }
+{
+    both(channel_is_live(time, channel), channel.number == number)
+}
+
+// Whether the channel is live and for the peer, address and port.
+pub fn leads_to(time: u64, peer: Peer, channel: Channel) -> bool
+    ensures { λ r. ⌜ r ≡ leadsTo time peer channel ⌝ }
+{
+    both(
+        channel_is_live(time, channel),
+        same_peer(channel.peer, peer),
+    )
+}
+
+// The lowest live channel with the number.
+pub fn channel_by_number(time: u64, number: u16, channels: [Channel; 8]) -> Found
+    ensures { λ r. ⌜ r ≡ find (numbered time number) channels ⌝ }
+{
+    let mut i: usize = 0;
+    while i < 8 {
+        let channel = channels[i];
+        if numbered(time, number, channel) {
+            return Found::At(i);
+        }
+        i += 1;
+    }
+    Found::Nothing
+}
+
+// The lowest live channel for the peer.
+pub fn channel_by_peer(time: u64, peer: Peer, channels: [Channel; 8]) -> Found
+    ensures { λ r. ⌜ r ≡ find (leadsTo time peer) channels ⌝ }
+{
+    let mut i: usize = 0;
+    while i < 8 {
+        let channel = channels[i];
+        if leads_to(time, peer, channel) {
+            return Found::At(i);
+        }
+        i += 1;
+    }
+    Found::Nothing
+}
+
+// The lowest channel that isn't live.
+fn find_free_channel(time: u64, channels: [Channel; 8]) -> Found
+    ensures { λ r. ⌜ r ≡ find (freeChannel time) channels ⌝ }
+{
+    let mut free: usize = 0;
+    while free < 8 {
+        let channel = channels[free];
+        if channel_is_free(time, channel) {
+            return Found::At(free);
+        }
+        free += 1;
+    }
+    Found::Nothing
+}
+
+// The channel at the place found, or a fresh one.
+pub fn channel_at(found: Found, channels: [Channel; 8]) -> Channel
+    ensures { λ r. ⌜ r ≡ atOr freshChannel found channels ⌝ }
+{
+    if let Found::At(i) = found {
+        if i < 8 {
+            return channels[i];
+        }
+        return fresh_channel();
+    }
+    fresh_channel()
+}
+
+// Whether the number is live for another peer.
+pub fn number_taken(time: u64, number: u16, peer: Peer, channels: [Channel; 8]) -> bool
+    ensures { λ r. ⌜ r ≡ numberTaken time number peer channels ⌝ }
+{
+    let found = channel_by_number(time, number, channels);
+    let channel = channel_at(found, channels);
+    both(has(found), !same_peer(channel.peer, peer))
+}
+
+// Whether the peer is live on another number.
+pub fn peer_taken(time: u64, number: u16, peer: Peer, channels: [Channel; 8]) -> bool
+    ensures { λ r. ⌜ r ≡ peerTaken time number peer channels ⌝ }
+{
+    let found = channel_by_peer(time, peer, channels);
+    let channel = channel_at(found, channels);
+    both(has(found), channel.number != number)
+}
+
+// The entry for a number: its live channel, or else the lowest that isn't live.
+pub fn channel_entry(time: u64, number: u16, channels: [Channel; 8]) -> Found
+    ensures { λ r. ⌜ r ≡ channelEntry time number channels ⌝ }
+{
+    let live = channel_by_number(time, number, channels);
+    let free = find_free_channel(time, channels);
+    or_else(live, free)
+}
+
+// The channels with this one at the place found.
+fn place_channel(entry: Found, channel: Channel, channels: [Channel; 8]) -> [Channel; 8]
+    ensures { λ r. ⌜ r ≡ place entry channel channels ⌝ }
+{
+    let mut placed = channels;
+    if let Found::At(i) = entry {
+        if i < 8 {
+            placed[i] = channel;
+        }
+    }
+    placed
+}
+
+// The slot with a channel of that number for the peer that lasts 600 seconds from now.
+pub fn bind(time: u64, number: u16, peer: Peer, slot: Slot) -> Placed
+    requires { ⌜ time ≤ 2 ^ 40 ⌝ }
+    ensures { λ r. ⌜ r ≡ bind time number peer slot ⌝ }
+{
+    let allocation = slot.allocation;
+    let permissions = slot.permissions;
+    let held = slot.channels;
+    let entry = channel_entry(time, number, held);
+    let channel = Channel {
+        number,
+        peer,
+        expiry: time + 600,
+    };
+    let channels = place_channel(entry, channel, held);
+    let made = Slot {
+        allocation,
+        permissions,
+        channels,
+    };
+    Placed {
+        ok: has(entry),
+        slot: made,
+    }
+}

@@ -1,0 +1,126 @@
+// A slot's permissions: fresh, live, the one for an IP address, and the entry that takes one.
+use crate::Found;
+use crate::Permission;
+use crate::Placed;
+use crate::Slot;
+use crate::has;
+use crate::is_live;
+use crate::or_else;
+use address::Address;
+use address::same_address;
+use choice::both;
+ghost use mathlib.Core.Path.{_≡_};
+ghost use Prim.Native.Nat.{_≤_, _^_};
+ghost use Rattle.table.specs.Search.{find, place};
+ghost use Rattle.table.specs.Table.{freshPermission, livePermission, freePermission, permits, permissionEntry, permit};
+
+pub fn fresh_permission() -> Permission
+    ensures { λ r. ⌜ r ≡ freshPermission ⌝ }
+{
+    let address = Address::V4(0);
+    Permission { address, expiry: 0 }
+}
+
+pub fn permission_is_live(time: u64, permission: Permission) -> bool
+    ensures { λ r. ⌜ r ≡ livePermission time permission ⌝ }
+{
+    is_live(time, permission.expiry)
+}
+
+fn permission_is_free(time: u64, permission: Permission) -> bool
+    ensures { λ r. ⌜ r ≡ freePermission time permission ⌝ }
+{
+    !permission_is_live(time, permission)
+}
+
+// Whether the permission is live and for the IP address, at any port.
+pub fn permits(time: u64, address: Address, permission: Permission) -> bool
+    ensures { λ r. ⌜ r ≡ permits time address permission ⌝ }
+{
+    let permitted = permission.address;
+    both(
+        permission_is_live(time, permission),
+        same_address(permitted, address),
+    )
+}
+
+// The lowest live permission for the IP address.
+pub fn find_permission(time: u64, address: Address, permissions: [Permission; 8]) -> Found
+    ensures { λ r. ⌜ r ≡ find (permits time address) permissions ⌝ }
+{
+    let mut i: usize = 0;
+    while i < 8 {
+        let permission = permissions[i];
+        if permits(time, address, permission) {
+            return Found::At(i);
+        }
+        i += 1;
+    }
+    Found::Nothing
+}
+
+// The lowest permission that isn't live.
+fn find_free_permission(time: u64, permissions: [Permission; 8]) -> Found
+    ensures { λ r. ⌜ r ≡ find (freePermission time) permissions ⌝ }
+{
+    let mut free: usize = 0;
+    while free < 8 {
+        let permission = permissions[free];
+        if permission_is_free(time, permission) {
+            return Found::At(free);
+        }
+        free += 1;
+    }
+    Found::Nothing
+}
+
+// The entry for an IP address: its live permission, or else the lowest that isn't live.
+pub fn permission_entry(time: u64, address: Address, permissions: [Permission; 8]) -> Found
+    ensures { λ r. ⌜ r ≡ permissionEntry time address permissions ⌝ }
+{
+    let live = find_permission(time, address, permissions);
+    let free = find_free_permission(time, permissions);
+    or_else(live, free)
+}
+
+// The permissions with this one at the place found.
+fn place_permission(
+    entry: Found,
+    permission: Permission,
+    permissions: [Permission; 8],
+) -> [Permission; 8]
+    ensures { λ r. ⌜ r ≡ place entry permission permissions ⌝ }
+{
+    let mut placed = permissions;
+    if let Found::At(i) = entry {
+        if i < 8 {
+            placed[i] = permission;
+        }
+    }
+    placed
+}
+
+// The slot with a permission for the IP address that lasts 300 seconds from now.
+pub fn permit(time: u64, address: Address, slot: Slot) -> Placed
+    requires { ⌜ time ≤ 2 ^ 40 ⌝ }
+    ensures { λ r. ⌜ r ≡ permit time address slot ⌝ }
+{
+    let allocation = slot.allocation;
+    let held = slot.permissions;
+    let channels = slot.channels;
+    let entry = permission_entry(time, address, held);
+    let permission = Permission {
+        address,
+        expiry: time + 300,
+    };
+    let permissions = place_permission(entry, permission, held);
+    let made = Slot {
+        allocation,
+        permissions,
+        channels,
+    };
+    Placed {
+        ok: has(entry),
+        slot: made,
+    }
+}
