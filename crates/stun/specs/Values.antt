@@ -99,3 +99,9 @@ numberIn width s Place.Absent = Absent
 -- 'CHANNEL-NUMBER, LIFETIME, family and transport values are 4 bytes: the number is in the first 2, all 4, first 1, first 1; the rest is not checked.'
 unfoldable pub numberValue : ℕ → ℕ → List ℕ → NumberValue
 numberValue width number s = numberIn width s (firstOf number (attributes s))
+
+-- the number that was read is below a bound
+abbrev pub Below : ℕ → NumberValue → Type 0
+Below bound (Number n) = n < bound
+Below bound WrongLength = Unit
+Below bound Absent = Unit

@@ -13,10 +13,10 @@ use wire::u32_at;
 use wire::xor_u16;
 use wire::xor_u32;
 ghost use mathlib.Core.Path.{_≡_};
-ghost use Prim.Native.Nat.{_+_, _≤_};
+ghost use Prim.Native.Nat.{_+_, _^_, _<_, _≤_};
 ghost use lib.ListN.{length};
 ghost use Rattle.wire.specs.Wire.{num};
-ghost use Rattle.stun.specs.Values.{transactionId, malformed, v4At, v6At, addressAt, NextPeer, firstPeer, widthOf, numberValue};
+ghost use Rattle.stun.specs.Values.{transactionId, malformed, v4At, v6At, addressAt, NextPeer, firstPeer, widthOf, numberValue, Below};
 
 pub fn transaction_id(s: &[u8]) -> TransactionId
     requires { ⌜ 20 ≤ length (now s) ⌝ }
@@ -154,7 +154,7 @@ pub enum Width {
 
 fn number_at(s: &[u8], at: usize, width: Width) -> u32
     requires { ⌜ at + 4 ≤ length (now s) ⌝ }
-    ensures { λ r. ⌜ r ≡ num (now (s .entry)) at (widthOf width) ⌝ }
+    ensures { λ r. ⌜ (r ≡ num (now (s .entry)) at (widthOf width)) × (r < 256 ^ widthOf width) ⌝ }
 {
     match width {
         Width::One => u8_at(s, at) as u32,
@@ -172,7 +172,7 @@ pub enum NumberValue {
 
 // The number in the first attribute of a type.
 fn number_value(s: &[u8], number: u16, width: Width) -> NumberValue
-    ensures { λ r. ⌜ r ≡ numberValue (widthOf width) number (now (s .entry)) ⌝ }
+    ensures { λ r. ⌜ (r ≡ numberValue (widthOf width) number (now (s .entry))) × Below (256 ^ widthOf width) r ⌝ }
 {
     match first_attribute(s, number) {
         Found::Value { start, len } => {
@@ -186,25 +186,25 @@ fn number_value(s: &[u8], number: u16, width: Width) -> NumberValue
 }
 
 pub fn channel_number(s: &[u8]) -> NumberValue
-    ensures { λ r. ⌜ r ≡ numberValue 2 0x000c (now (s .entry)) ⌝ }
+    ensures { λ r. ⌜ (r ≡ numberValue 2 0x000c (now (s .entry))) × Below (256 ^ 2) r ⌝ }
 {
     number_value(s, AttributeKind::CHANNEL_NUMBER, Width::Two)
 }
 
 pub fn lifetime(s: &[u8]) -> NumberValue
-    ensures { λ r. ⌜ r ≡ numberValue 4 0x000d (now (s .entry)) ⌝ }
+    ensures { λ r. ⌜ (r ≡ numberValue 4 0x000d (now (s .entry))) × Below (256 ^ 4) r ⌝ }
 {
     number_value(s, AttributeKind::LIFETIME, Width::Four)
 }
 
 pub fn requested_address_family(s: &[u8]) -> NumberValue
-    ensures { λ r. ⌜ r ≡ numberValue 1 0x0017 (now (s .entry)) ⌝ }
+    ensures { λ r. ⌜ (r ≡ numberValue 1 0x0017 (now (s .entry))) × Below (256 ^ 1) r ⌝ }
 {
     number_value(s, AttributeKind::REQUESTED_ADDRESS_FAMILY, Width::One)
 }
 
 pub fn requested_transport(s: &[u8]) -> NumberValue
-    ensures { λ r. ⌜ r ≡ numberValue 1 0x0019 (now (s .entry)) ⌝ }
+    ensures { λ r. ⌜ (r ≡ numberValue 1 0x0019 (now (s .entry))) × Below (256 ^ 1) r ⌝ }
 {
     number_value(s, AttributeKind::REQUESTED_TRANSPORT, Width::One)
 }
