@@ -38,7 +38,8 @@ pub attribute-small : (n m : ℕ) → n ≤ m * 4 → attributeSize n ≤ 4 + m 
 attribute-small n m h = let q : (n + 3) / 4 ≤ m = omega arith in omega arith
 
 -- head, value and zeros are the attribute
-pub attribute-sent : (type : ℕ) (value : List ℕ) {len zeros n : ℕ} {d l : List ℕ} → len ≡ length value → zeros ≡ padding len → n ≡ attributeSize len
+pub attribute-sent : (type : ℕ) (value : List ℕ) {len zeros n : ℕ} {d l : List ℕ}
+    → len ≡ length value → zeros ≡ padding len → n ≡ attributeSize len
     → Wrote ((attributeHead type len ++ value) ++ replicate zeros 0) d l → Sent (attributeBytes type value) d l n
 unfolding attributeHead attributeBytes bytesOf
 attribute-sent type value e z s w =
@@ -57,7 +58,8 @@ length-first-types types count h = rw (length-types, length-take) (omega arith)
 types-more : (types : List ℕ) (t : ℕ) → typesBytes types ++ bytesOf 2 t ≡ typesBytes (types ++ t ∷ [])
 unfolding typesBytes
 types-more [] t = sym (append-nil (bytesOf 2 t))
-types-more (u ∷ types) t = append-assoc (bytesOf 2 u) (typesBytes types) (bytesOf 2 t) ∙ ap (λ (l : List ℕ). bytesOf 2 u ++ l) (types-more types t)
+types-more (u ∷ types) t =
+    append-assoc (bytesOf 2 u) (typesBytes types) (bytesOf 2 t) ∙ ap (λ (l : List ℕ). bytesOf 2 u ++ l) (types-more types t)
 
 -- the first i types, and then the next
 pub wrote-type : (types : List ℕ) (i : ℕ) {d l y : List ℕ} → i < length types → Wrote (typesBytes (take i types)) d l
@@ -73,13 +75,14 @@ unfolding messageBytes bytesOf
 length-message type id body = omega arith
 
 -- header and attributes are the message
-pub message-sent : (type : ℕ) (id : TransactionId) (body : List ℕ) {number len n : ℕ} {d l : List ℕ} → number ≡ type → len ≡ length body → n ≡ 20 + len
+pub message-sent : (type : ℕ) (id : TransactionId) (body : List ℕ) {number len n : ℕ} {d l : List ℕ}
+    → number ≡ type → len ≡ length body → n ≡ 20 + len
     → Wrote (headerBytes number len id ++ body) d l → Sent (messageBytes type id body) d l n
 unfolding messageBytes
 message-sent type id body t e s w =
     record { wrote = rw (← t, ← e) w; size = s ∙ ap (λ (k : ℕ). 20 + k) e ∙ sym (length-message type id body) }
 
--- ---- No message is longer than 1536 bytes
+-- ---- No message is longer than 1536 bytes, with 16 types or 1500 bytes of payload at most
 
 module _ (id : TransactionId) where
   pub allocate-small : (relay port seconds : ℕ) (client : Peer) → length (allocateSuccess id relay port seconds client) ≤ 1536

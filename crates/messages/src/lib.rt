@@ -178,8 +178,8 @@ pub fn put_unknown_attributes(out: &mut [u8], types: [u16; 16], count: usize) ->
     let len = count * 2;
     put_attribute_head(out, AttributeKind::UNKNOWN_ATTRIBUTES, len as u16);
     put_types(&mut out[4..], types, count);
-    let end = 4 + len;
-    put_zeros(&mut out[end..], padding(len));
+    let types_end = 4 + len;
+    put_zeros(&mut out[types_end..], padding(len));
     attribute_size(len)
 }
 
@@ -191,8 +191,8 @@ pub fn put_data(out: &mut [u8], payload: &[u8]) -> usize
     let len = payload.len();
     put_attribute_head(out, AttributeKind::DATA, len as u16);
     put_bytes(&mut out[4..], payload);
-    let end = 4 + len;
-    put_zeros(&mut out[end..], padding(len));
+    let payload_end = 4 + len;
+    put_zeros(&mut out[payload_end..], padding(len));
     attribute_size(len)
 }
 
