@@ -1,0 +1,22 @@
+use native.Mathlib.Omega.{arith}
+use Rattle.rules.specs.Requests.{channelBindCode}
+use borrow.Author.Needs.{needs}
+use Rattle.rules.proofs.channels.channel_bind_code.Statement.{statement}
+use Rattle.rules.proofs.channels.channel_bind_code.Tie as tie
+
+returns : tie.Need-returns
+unfolding channelBindCode
+returns c = (rw (← c .before .before .before .before .before .before .channel-number .ensures .0, ← c .before .before .before .before .before .first-peer .ensures, ← c .before .before .before .before .missing .ensures, ← c .before .before .before .malformed-peer .ensures, ← c .before .before .check .ensures .0, ← c .before .check2 .ensures .0, ← c .own-code .ensures .0), omega arith)
+
+pub channel-bind-code-spec : {M : Type 1} → statement M
+channel-bind-code-spec =
+    tie.close
+    (tie.spec
+    (λ c. search needs)
+    (λ c. search needs)
+    (λ c. search needs)
+    (λ c. search needs)
+    (λ c. search needs)
+    (λ c. search needs)
+    (λ c. search needs)
+    returns)

@@ -1,0 +1,11 @@
+use Rattle.rules.specs.Requests.{allocated}
+use borrow.Author.Needs.{needs}
+use Rattle.rules.proofs.requests.allocated.Statement.{statement}
+use Rattle.rules.proofs.requests.allocated.Tie as tie
+
+returns : tie.Need-returns
+unfolding allocated
+returns c = rw (c .before .before .before .before .fresh-slot .ensures)
+
+pub allocated-spec : {M : Type 1} → statement M
+allocated-spec = tie.close (tie.spec (λ c. search needs) (λ c. search needs) returns)

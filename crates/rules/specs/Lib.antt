@@ -1,0 +1,5 @@
+pub mod Act
+pub mod Values
+pub mod Requests
+pub mod Data
+pub mod Client

@@ -1,0 +1,93 @@
+-- The words in which the checks speak of what a request carries, and the lifetime granted.
+use Prim.Native.Nat.{ℕ, min, max}
+use mathlib.Core.Bool.{Bool, true, false, not}
+use mathlib.Core.List.{List, [], _∷_}
+use lib.Dec.{eqb}
+use lib.ListN.{length}
+use Rattle.choice.specs.Choice.{pick}
+use Rattle.address.specs.declared.Address.{Address}
+use Rattle.address.specs.declared.Address.the-variants.{V4, V6}
+use Rattle.stun.specs.Message.{unknownTypes}
+use Rattle.stun.specs.Values.{numberValue}
+use Rattle.stun.specs.declared.values.AddressValue.{AddressValue}
+use Rattle.stun.specs.declared.values.NumberValue.{NumberValue}
+use Rattle.stun.specs.declared.values.NumberValue.the-variants.{Number, WrongLength, Absent}
+
+-- 'any unknown attribute'
+unfoldable pub anyUnknown : List ℕ → Bool
+anyUnknown s = not (eqb (length (unknownTypes s)) 0)
+
+-- CHANNEL-NUMBER 0x000C: 'the number is in the first 2'
+abbrev pub channelNumber : List ℕ → NumberValue
+channelNumber s = numberValue 2 0x000c s
+
+-- LIFETIME 0x000D: 'all 4'
+abbrev pub lifetime : List ℕ → NumberValue
+lifetime s = numberValue 4 0x000d s
+
+-- REQUESTED-ADDRESS-FAMILY 0x0017: 'first 1'
+abbrev pub requestedFamily : List ℕ → NumberValue
+requestedFamily s = numberValue 1 0x0017 s
+
+-- REQUESTED-TRANSPORT 0x0019: 'first 1'
+abbrev pub requestedTransport : List ℕ → NumberValue
+requestedTransport s = numberValue 1 0x0019 s
+
+-- 'missing or not 4 bytes'
+abbrev pub missing : NumberValue → Bool
+missing (Number n) = false
+missing WrongLength = true
+missing Absent = true
+
+-- 'not 4 bytes', of one that is present
+abbrev pub wrongLength : NumberValue → Bool
+wrongLength (Number n) = false
+wrongLength WrongLength = true
+wrongLength Absent = false
+
+-- 'not 17', 'not 1', of one that is present
+abbrev pub otherThan : ℕ → NumberValue → Bool
+otherThan wanted (Number n) = not (eqb n wanted)
+otherThan wanted WrongLength = false
+otherThan wanted Absent = false
+
+-- the number, or 0 where there is none
+abbrev pub numberOf : NumberValue → ℕ
+numberOf (Number n) = n
+numberOf WrongLength = 0
+numberOf Absent = 0
+
+-- 'Lifetime granted: absent 600; else the smaller of the value and 3600, but not below 600.'
+abbrev pub granted : NumberValue → ℕ
+granted (Number seconds) = max 600 (min seconds 3600)
+granted WrongLength = 600
+granted Absent = 600
+
+-- 'In Refresh, 0 gives 0.'
+abbrev pub grantedRefresh : NumberValue → ℕ
+grantedRefresh (Number seconds) = pick (eqb seconds 0) 0 (max 600 (min seconds 3600))
+grantedRefresh WrongLength = 600
+grantedRefresh Absent = 600
+
+abbrev pub isIpv6 : Address → Bool
+isIpv6 (V4 a) = false
+isIpv6 (V6 a b c d) = true
+
+abbrev pub ipv4Of : Address → ℕ
+ipv4Of (V4 a) = a
+ipv4Of (V6 a b c d) = 0
+
+-- 'no peer address'
+abbrev pub none : List AddressValue → Bool
+none [] = true
+none (v ∷ rest) = false
+
+unfoldable pub any : (AddressValue → Bool) → List AddressValue → Bool
+any test [] = false
+any test (v ∷ rest) = pick (test v) true (any test rest)
+
+unfoldable pub malformedPeer : AddressValue → Bool
+malformedPeer v = not (v .«well_formed»)
+
+unfoldable pub ipv6Peer : AddressValue → Bool
+ipv6Peer v = isIpv6 (v .peer .address)

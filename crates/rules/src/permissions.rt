@@ -1,0 +1,145 @@
+// CreatePermission: its checks, and the fold over its peer addresses.
+use crate::answer::Answer;
+use crate::answer::Outcome;
+use crate::answer::check;
+use crate::answer::respond_error;
+use crate::requests::ClientCall;
+use crate::requests::own_code;
+use crate::values::ipv6_peer;
+use crate::values::malformed_peer;
+use messages::put_bare_success;
+use stun::kinds::Method;
+use stun::values::AddressValue;
+use stun::values::PeerReading;
+use stun::values::next_peer;
+use stun::values::transaction_id;
+use table::Placed;
+use table::Slot;
+use table::permissions::permit;
+ghost use mathlib.Core.Path.{_≡_};
+ghost use Prim.Native.Nat.{_≤_, _^_};
+ghost use lib.ListN.{length};
+ghost use Rattle.stun.specs.Values.{peers};
+ghost use Rattle.rules.specs.Act.{Answers};
+ghost use Rattle.rules.specs.Values.{none, any, malformedPeer, ipv6Peer};
+ghost use Rattle.rules.specs.Requests.{permitPeer, permitAll, createPermissionCode, createPermission};
+
+fn no_peer(s: &[u8]) -> bool
+    requires { ⌜ 20 ≤ length (now s) ⌝ }
+    ensures { λ r. ⌜ r ≡ none (peers (now (s .entry))) ⌝ }
+{
+    match next_peer(s, 20) {
+        PeerReading::One { value: _, next: _ } => false,
+        PeerReading::Done => true,
+    }
+}
+
+fn any_malformed(s: &[u8]) -> bool
+    requires { ⌜ 20 ≤ length (now s) ⌝ }
+    ensures { λ r. ⌜ r ≡ any malformedPeer (peers (now (s .entry))) ⌝ }
+{
+    let mut at: usize = 20;
+    loop {
+        match next_peer(s, at) {
+            PeerReading::One { value, next } => {
+                if malformed_peer(value) {
+                    return true;
+                }
+                at = next;
+            }
+            PeerReading::Done => {
+                return false;
+            }
+        }
+    }
+}
+
+fn any_ipv6(s: &[u8]) -> bool
+    requires { ⌜ 20 ≤ length (now s) ⌝ }
+    ensures { λ r. ⌜ r ≡ any ipv6Peer (peers (now (s .entry))) ⌝ }
+{
+    let mut at: usize = 20;
+    loop {
+        match next_peer(s, at) {
+            PeerReading::One { value, next } => {
+                if ipv6_peer(value) {
+                    return true;
+                }
+                at = next;
+            }
+            PeerReading::Done => {
+                return false;
+            }
+        }
+    }
+}
+
+fn permit_peer(time: u64, value: AddressValue, slot: Slot) -> Placed
+    requires { ⌜ time ≤ 2 ^ 40 ⌝ }
+    ensures { λ r. ⌜ r ≡ permitPeer time value slot ⌝ }
+{
+    let peer = value.peer;
+    let address = peer.address;
+    permit(time, address, slot)
+}
+
+// Each peer address is given its permission in order; where one finds no room, the slot is as it was.
+fn permit_all(s: &[u8], time: u64, slot: Slot) -> Placed
+    requires { ⌜ (20 ≤ length (now s)) × (time ≤ 2 ^ 40) ⌝ }
+    ensures { λ r. ⌜ r ≡ permitAll time (peers (now (s .entry))) slot slot ⌝ }
+{
+    let mut done = slot;
+    let mut at: usize = 20;
+    loop {
+        match next_peer(s, at) {
+            PeerReading::One { value, next } => {
+                let one = permit_peer(time, value, done);
+                if !one.ok {
+                    return Placed { ok: false, slot };
+                }
+                done = one.slot;
+                at = next;
+            }
+            PeerReading::Done => {
+                return Placed {
+                    ok: true,
+                    slot: done,
+                };
+            }
+        }
+    }
+}
+
+fn create_permission_code(s: &[u8], call: ClientCall, own: bool, slot: Slot, room: bool) -> u16
+    requires { ⌜ (20 ≤ length (now s)) × (room ≡ permitAll (call .time) (peers (now s)) slot slot .ok) ⌝ }
+    ensures { λ r. ⌜ (r ≡ createPermissionCode call (now (s .entry)) own slot) × (r ≤ 699) ⌝ }
+{
+    let rest = check(
+        any_malformed(s),
+        400,
+        check(any_ipv6(s), 443, check(!room, 508, 0)),
+    );
+    own_code(s, call, own, slot, check(no_peer(s), 400, rest))
+}
+
+pub fn create_permission(
+    s: &[u8],
+    reply: &mut [u8],
+    call: ClientCall,
+    own: bool,
+    was: Slot,
+) -> Answer
+    requires { ⌜ (20 ≤ length (now s)) × (1536 ≤ length (now reply)) × (call .time ≤ 2 ^ 40) ⌝ }
+    ensures { λ r. ⌜ Answers (createPermission call (now (s .entry)) own was) was (now (reply .entry)) (now (reply .exit)) r ⌝ }
+{
+    let placed = permit_all(s, call.time, was);
+    let code = create_permission_code(s, call, own, was, placed.ok);
+    let five_tuple = call.five_tuple;
+    if code != 0 {
+        return respond_error(s, reply, five_tuple, Method::CreatePermission, code, was);
+    }
+    let slot = placed.slot;
+    let len = put_bare_success(reply, Method::CreatePermission, transaction_id(s));
+    let outcome = Outcome::ToClient { five_tuple, len };
+    Answer { outcome, slot }
+}

@@ -1,0 +1,127 @@
+// The tests of what a request carries, and the lifetime granted.
+use address::Address;
+use stun::message::unknown_types;
+use stun::values::AddressValue;
+use stun::values::NumberValue;
+ghost use mathlib.Core.Path.{_≡_};
+ghost use Prim.Native.Nat.{min, max};
+ghost use Rattle.rules.specs.Values.{anyUnknown, missing, wrongLength, otherThan, numberOf, granted, grantedRefresh, isIpv6, ipv4Of, malformedPeer, ipv6Peer};
+
+pub fn any_unknown(s: &[u8]) -> bool
+    ensures { λ r. ⌜ r ≡ anyUnknown (now (s .entry)) ⌝ }
+{
+    let unknown = unknown_types(s);
+    unknown.count != 0
+}
+
+pub fn missing(value: NumberValue) -> bool
+    ensures { λ r. ⌜ r ≡ missing value ⌝ }
+{
+    match value {
+        NumberValue::Number(_) => false,
+        NumberValue::WrongLength => true,
+        NumberValue::Absent => true,
+    }
+}
+
+pub fn wrong_length(value: NumberValue) -> bool
+    ensures { λ r. ⌜ r ≡ wrongLength value ⌝ }
+{
+    match value {
+        NumberValue::Number(_) => false,
+        NumberValue::WrongLength => true,
+        NumberValue::Absent => false,
+    }
+}
+
+pub fn other_than(wanted: u32, value: NumberValue) -> bool
+    ensures { λ r. ⌜ r ≡ otherThan wanted value ⌝ }
+{
+    match value {
+        NumberValue::Number(n) => n != wanted,
+        NumberValue::WrongLength => false,
+        NumberValue::Absent => false,
+    }
+}
+
+pub fn number_of(value: NumberValue) -> u32
+    ensures { λ r. ⌜ r ≡ numberOf value ⌝ }
+{
+    match value {
+        NumberValue::Number(n) => n,
+        NumberValue::WrongLength => 0,
+        NumberValue::Absent => 0,
+    }
+}
+
+// At least 600 seconds, and at most 3600.
+fn clamped(seconds: u32) -> u32
+    ensures { λ r. ⌜ r ≡ max 600 (min seconds 3600) ⌝ }
+{
+    if seconds < 600 {
+        return 600;
+    }
+    if 3600 < seconds {
+        return 3600;
+    }
+    seconds
+}
+
+// The lifetime that an Allocate is granted.
+pub fn granted(asked: NumberValue) -> u32
+    ensures { λ r. ⌜ r ≡ granted asked ⌝ }
+{
+    match asked {
+        NumberValue::Number(seconds) => clamped(seconds),
+        NumberValue::WrongLength => 600,
+        NumberValue::Absent => 600,
+    }
+}
+
+// The lifetime that a Refresh is granted.
+pub fn granted_refresh(asked: NumberValue) -> u32
+    ensures { λ r. ⌜ r ≡ grantedRefresh asked ⌝ }
+{
+    match asked {
+        NumberValue::Number(seconds) => {
+            if seconds == 0 {
+                return 0;
+            }
+            clamped(seconds)
+        }
+        NumberValue::WrongLength => 600,
+        NumberValue::Absent => 600,
+    }
+}
+
+pub fn is_ipv6(address: Address) -> bool
+    ensures { λ r. ⌜ r ≡ isIpv6 address ⌝ }
+{
+    match address {
+        Address::V4(_) => false,
+        Address::V6(_, _, _, _) => true,
+    }
+}
+
+pub fn ipv4_of(address: Address) -> u32
+    ensures { λ r. ⌜ r ≡ ipv4Of address ⌝ }
+{
+    match address {
+        Address::V4(a) => a,
+        Address::V6(_, _, _, _) => 0,
+    }
+}
+
+pub fn malformed_peer(value: AddressValue) -> bool
+    ensures { λ r. ⌜ r ≡ malformedPeer value ⌝ }
+{
+    !value.well_formed
+}
+
+pub fn ipv6_peer(value: AddressValue) -> bool
+    ensures { λ r. ⌜ r ≡ ipv6Peer value ⌝ }
+{
+    let peer = value.peer;
+    let address = peer.address;
+    is_ipv6(address)
+}
