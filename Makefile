@@ -1,4 +1,4 @@
-# make test: all checks. make run: prove, build and run the main program on its sample.
+# make test: all checks. make run: prove, build and run the main program.
 .PHONY: test run fmt
 
 test:
