@@ -1,0 +1,128 @@
+-- The laws of searches and surveys: what one more slot at the end changes, and what a loop over the slots keeps.
+use Prim.Native.Nat.{ℕ, suc, _+_, _≤_, _<_, _^_}
+use mathlib.Core.Path.{_≡_, refl, sym, _∙_, ap}
+use mathlib.Core.Bool.{Bool, true, false}
+use mathlib.Core.List.{List, [], _∷_, _++_}
+use native.Mathlib.Numerals.{add-one}
+use native.Mathlib.Omega.{arith}
+use borrow.Author.Tests.{eqb-true, eqb-false, eq-eqb, ne-eqb}
+use lib.Dec.{eqb}
+use lib.ListN.{length, getD, set, take, length-take}
+use lib.Seq.{take-suc, take-all, length-take-le, getD-set-same, getD-set-other}
+use Rattle.choice.specs.Choice.{pick, both}
+use Rattle.address.specs.declared.FiveTuple.{FiveTuple}
+use Rattle.table.specs.declared.Allocation.{Allocation}
+use Rattle.table.specs.declared.Found.{Found}
+use Rattle.table.specs.declared.Found.the-variants.{At, Nothing}
+use Rattle.table.specs.declared.Slot.{Slot}
+use Rattle.table.specs.Search.{further, find, has, orElse}
+use Rattle.table.specs.Table.{freshSlot, holds, holdsUser, holdsPort}
+use Rattle.slots.specs.declared.surveys.Survey.{Survey}
+use Rattle.slots.specs.Slots.{slotAt, inSlot, count, lapsed, Surveyed, SurveyedWith}
+
+-- ---- one more entry at the end of a list
+further-else : (found : Found) (passes : Bool) (i : ℕ) → further (orElse found (pick passes (At i) Nothing)) ≡ orElse (further found) (pick passes (At (suc i)) Nothing)
+further-else (At j) passes i = refl
+further-else Nothing true i = refl
+further-else Nothing false i = refl
+
+has-else : (found : Found) (passes : Bool) (i : ℕ) → has (orElse found (pick passes (At i) Nothing)) ≡ pick (has found) true passes
+has-else (At j) passes i = refl
+has-else Nothing true i = refl
+has-else Nothing false i = refl
+
+module _ {A : Type 0} (p : A → Bool) where
+  find-more : (l : List A) (x : A) → find p (l ++ x ∷ []) ≡ orElse (find p l) (pick (p x) (At (length l)) Nothing)
+  unfolding find
+  find-more [] x = refl
+  find-more (y ∷ l) x = rw (find-more l x) (here (p y))
+    where
+      here : (b : Bool) → pick b (At 0) (further (orElse (find p l) (pick (p x) (At (length l)) Nothing))) ≡ orElse (pick b (At 0) (further (find p l))) (pick (p x) (At (suc (length l))) Nothing)
+      here true = refl
+      here false = further-else (find p l) (p x) (length l)
+
+  -- what is found is one of the list's
+  pub find-within : (l : List A) {i : ℕ} → find p l ≡ At i → i < length l
+  unfolding find
+  find-within [] e = let z : _≡_ {A = ℕ} 0 1 = cc in omega arith
+  find-within (y ∷ l) {i} e = here (p y) (find p l) (λ j. find-within l) e
+    where
+      here : (b : Bool) (found : Found) → ((j : ℕ) → found ≡ At j → j < length l) → pick b (At 0) (further found) ≡ At i → i < suc (length l)
+      here true found within e′ = let z : _≡_ {A = ℕ} 0 i = cc in omega arith
+      here false (At j) within e′ = let z : suc j ≡ i = cc in omega (arith, within j refl)
+      here false Nothing within e′ = let z : _≡_ {A = ℕ} 0 1 = cc in omega arith
+
+  has-more : (l : List A) (x : A) → has (find p (l ++ x ∷ [])) ≡ pick (has (find p l)) true (p x)
+  has-more l x = ap has (find-more l x) ∙ has-else (find p l) (p x) (length l)
+
+  count-more : (l : List A) (x : A) → count p (l ++ x ∷ []) ≡ pick (p x) (count p l + 1) (count p l)
+  unfolding count
+  count-more [] x = refl
+  count-more (y ∷ l) x = rw (count-more l x) (here (p y) (p x))
+    where
+      here : (b b′ : Bool) → pick b (suc (pick b′ (count p l + 1) (count p l))) (pick b′ (count p l + 1) (count p l)) ≡ pick b′ (pick b (suc (count p l)) (count p l) + 1) (pick b (suc (count p l)) (count p l))
+      here true true = omega arith
+      here true false = refl
+      here false true = refl
+      here false false = refl
+
+  count-most : (l : List A) → count p l ≤ length l
+  unfolding count
+  count-most [] = omega arith
+  count-most (y ∷ l) = here (p y) (count-most l)
+    where
+      here : (b : Bool) → count p l ≤ length l → pick b (suc (count p l)) (count p l) ≤ suc (length l)
+      here true most = omega arith
+      here false most = omega arith
+
+-- ---- one more port
+unmarked : (x live : Bool) → x ≡ pick x true (both live false)
+unfolding both
+unmarked true true = refl
+unmarked true false = refl
+unmarked false true = refl
+unmarked false false = refl
+
+marked : (x live : Bool) → pick x true live ≡ pick x true (both live true)
+unfolding both
+marked true live = refl
+marked false true = refl
+marked false false = refl
+
+pub mark-none : (ports : List Bool) (live : Bool) {port : ℕ} (k : ℕ) → (port ≡ 49152 + k → ⊥) → getD ports k false ≡ pick (getD ports k false) true (both live (eqb port (49152 + k)))
+mark-none ports live {port} k other = rw (ne-eqb port (49152 + k) other) (unmarked (getD ports k false) live)
+
+pub mark-at : (ports : List Bool) (live : Bool) {x : Bool} {port k : ℕ} → x ≡ pick (getD ports k false) true live → port ≡ 49152 + k → k < length ports
+    → (j : ℕ) → getD (set ports k x) j false ≡ pick (getD ports j false) true (both live (eqb port (49152 + j)))
+mark-at ports live {x} {port} {k} e at within j = by-case (eqb j k) refl
+  where
+    by-case : (b : Bool) → eqb j k ≡ b → getD (set ports k x) j false ≡ pick (getD ports j false) true (both live (eqb port (49152 + j)))
+    by-case true t = rw (eqb-true j k t, getD-set-same, e, eq-eqb port (49152 + k) at) (marked (getD ports k false) live)
+    by-case false f = rw (getD-set-other ports k j x false (eqb-false j k f)) (mark-none ports live j (λ same. eqb-false j k f (omega arith)))
+
+-- ---- one more slot
+pub surveyed-with : {survey more : Survey} {i time : ℕ} {fiveTuple : FiveTuple} {user : ℕ} {allocation : Allocation}
+    → more .own ≡ pick (survey .own) true (holds time fiveTuple allocation)
+    → more .held ≡ pick (holdsUser time user allocation) (survey .held + 1) (survey .held)
+    → more .free ≡ orElse (survey .free) (pick (lapsed time allocation) (At i) Nothing)
+    → ((k : ℕ) → k < 128 → getD (more .ports) k false ≡ pick (getD (survey .ports) k false) true (holdsPort time (49152 + k) allocation))
+    → length (more .ports) ≡ 128 → SurveyedWith survey i time fiveTuple user allocation more
+surveyed-with {survey} {more} {i} {time} {fiveTuple} {user} {allocation} own held free ports width l slot here same before = record {
+  own = rw (has-more (inSlot (holds time fiveTuple)) l slot, ← before .own, same) own;
+  held = rw (count-more (inSlot (holdsUser time user)) l slot, ← before .held, same) held;
+  free = rw (find-more (inSlot (lapsed time)) l slot, ← before .free, same, here) free;
+  ports = λ k h. rw (has-more (inSlot (holdsPort time (49152 + k))) l slot, ← before .ports k h, same) (ports k h);
+  width = width;
+}
+
+-- ---- a loop over the slots: it has surveyed the first i
+module _ (l : List Slot) (i : ℕ) {time : ℕ} {fiveTuple : FiveTuple} {user : ℕ} {survey : Survey} where
+  pub held-fits : length l < 2 ^ 63 → Surveyed (take i l) time fiveTuple user survey → survey .held < 2 ^ 63
+  held-fits short before = omega (arith, before .held, count-most (inSlot (holdsUser time user)) (take i l), length-take i l)
+
+  pub survey-next : {allocation : Allocation} {more : Survey} → i < length l → Surveyed (take i l) time fiveTuple user survey → allocation ≡ slotAt l i .allocation
+      → SurveyedWith survey i time fiveTuple user allocation more → Surveyed (take (i + 1) l) time fiveTuple user more
+  survey-next within before same next = rw (add-one, take-suc l i freshSlot) (next (take i l) (slotAt l i) (length-take-le i l (omega arith)) (sym same) before)
+
+  pub survey-all : length l ≤ i → Surveyed (take i l) time fiveTuple user survey → Surveyed l time fiveTuple user survey
+  survey-all past before = rw (take-all i l past) at before

@@ -1,0 +1,64 @@
+-- What the functions over the lent slots answer.
+use Prim.Native.Nat.{ℕ, zero, suc, _+_, _<_}
+use mathlib.Core.Path.{_≡_}
+use mathlib.Core.Bool.{Bool, false, not}
+use mathlib.Core.List.{List, [], _∷_, _++_}
+use lib.ListN.{length, getD}
+use Rattle.choice.specs.Choice.{pick}
+use Rattle.address.specs.declared.FiveTuple.{FiveTuple}
+use Rattle.table.specs.declared.Allocation.{Allocation}
+use Rattle.table.specs.declared.Found.{Found}
+use Rattle.table.specs.declared.Slot.{Slot}
+use Rattle.table.specs.Search.{find, has}
+use Rattle.table.specs.Table.{freshSlot, liveAllocation, holds, holdsUser, holdsPort}
+use Rattle.slots.specs.declared.keys.Key.{Key}
+use Rattle.slots.specs.declared.keys.Key.the-variants.{Client, Port}
+use Rattle.slots.specs.declared.surveys.Survey.{Survey}
+
+-- slot k of the list, and past its end a fresh one
+abbrev pub slotAt : List Slot → ℕ → Slot
+slotAt l k = getD l k freshSlot
+
+-- a test of an allocation, as one of the slot that it is in
+abbrev pub inSlot : (Allocation → Bool) → Slot → Bool
+inSlot test slot = test (slot .allocation)
+
+-- whether an allocation is live and has the key
+unfoldable pub keyed : ℕ → Key → Allocation → Bool
+keyed time (Client fiveTuple) allocation = holds time fiveTuple allocation
+keyed time (Port port) allocation = holdsPort time port allocation
+
+-- the lowest slot with the key
+abbrev pub searched : ℕ → Key → List Slot → Found
+searched time key l = find (inSlot (keyed time key)) l
+
+-- how many entries of a list pass a test
+unfoldable pub count : {A : Type 0} → (A → Bool) → List A → ℕ
+count passes [] = zero
+count passes (x ∷ l) = pick (passes x) (suc (count passes l)) (count passes l)
+
+-- a 'slot that isn't live'
+abbrev pub lapsed : ℕ → Allocation → Bool
+lapsed time allocation = not (liveAllocation time allocation)
+
+-- what Allocate asks of the slots
+pub record Surveyed (l : List Slot) (time : ℕ) (fiveTuple : FiveTuple) (user : ℕ) (survey : Survey) : Type 0 where
+  -- 'live allocation for the 5-tuple'
+  pub own : survey .own ≡ has (find (inSlot (holds time fiveTuple)) l)
+  -- how many 'live allocations' the 'user holds'
+  pub held : survey .held ≡ count (inSlot (holdsUser time user)) l
+  -- 'the lowest such slot'
+  pub free : survey .free ≡ find (inSlot (lapsed time)) l
+  -- of each 'port 49152 + k', whether a 'live slot holds' it
+  pub ports : (k : ℕ) → k < 128 → getD (survey .ports) k false ≡ has (find (inSlot (holdsPort time (49152 + k))) l)
+  pub width : length (survey .ports) ≡ 128
+
+-- it is of no slots, for whomever
+abbrev pub SurveyedNone : Survey → Type 0
+SurveyedNone survey = (time : ℕ) (fiveTuple : FiveTuple) (user : ℕ) → Surveyed [] time fiveTuple user survey
+
+-- where `survey` is of the slots before slot i, `more` is of them and of slot i, which has the allocation
+abbrev pub SurveyedWith : Survey → ℕ → ℕ → FiveTuple → ℕ → Allocation → Survey → Type 0
+SurveyedWith survey i time fiveTuple user allocation more =
+    (l : List Slot) (slot : Slot) → length l ≡ i → slot .allocation ≡ allocation
+    → Surveyed l time fiveTuple user survey → Surveyed (l ++ slot ∷ []) time fiveTuple user more
