@@ -1,0 +1,10 @@
+pub mod Readings
+pub mod Table
+pub mod Keep
+pub mod Tests
+pub mod Entries
+pub mod Replies
+pub mod FreePort
+pub mod Made
+pub mod Whole
+pub mod Demand

@@ -1,0 +1,175 @@
+-- The three parts of demand 3 as readings of the list of counted events, the newest first, and that the text says the same.
+use mathlib.Core.Path.{_≡_, refl, sym, _∙_, ap}
+use mathlib.Core.Logic.{_≢_, _⊎_, inl, inr}
+use mathlib.Core.List.{List, [], _∷_, _++_, List·Memᴰ, List·Memᴰ·head, List·Memᴰ·tail, List·Memᴰ·not-nil, Memᴰ·append-left, append-assoc}
+use Prim.Native.Nat.{ℕ, _+_, _<_}
+use native.Mathlib.Omega.{arith}
+use Rattle.address.specs.declared.Address.{Address}
+use Rattle.address.specs.declared.FiveTuple.{FiveTuple}
+use Rattle.history.specs.Counted.{Counted, gave, kept, allowed, nothing}
+use Rattle.history.specs.Statement.{FromAllocate, Permitted}
+
+-- C holds R: its latest Allocate gave R, and nobody was given R after it
+abbrev pub Given : List Counted → FiveTuple → ℕ → Type 0
+Given [] C R = ⊥
+Given (gave D P s n ∷ h) C R = ((C ≡ D) × (R ≡ P)) ⊎ ((C ≢ D) × (R ≢ P) × Given h C R)
+Given (kept D s n ∷ h) C R = Given h C R
+Given (allowed D xs s ∷ h) C R = Given h C R
+Given (nothing ∷ h) C R = Given h C R
+
+-- the last lifetime granted to C is not zero and not over at t
+abbrev pub Granted : List Counted → FiveTuple → ℕ → Type 0
+Granted [] C t = ⊥
+Granted (gave D P s n ∷ h) C t = ((C ≡ D) × (n ≢ 0) × (t < s + n)) ⊎ ((C ≢ D) × Granted h C t)
+Granted (kept D s n ∷ h) C t = ((C ≡ D) × (n ≢ 0) × (t < s + n)) ⊎ ((C ≢ D) × Granted h C t)
+Granted (allowed D xs s ∷ h) C t = Granted h C t
+Granted (nothing ∷ h) C t = Granted h C t
+
+-- since its latest Allocate C had a permission for a accepted at some s with t < s + 300
+abbrev pub Allowed : List Counted → FiveTuple → Address → ℕ → Type 0
+Allowed [] C a t = ⊥
+Allowed (gave D P s n ∷ h) C a t = (C ≢ D) × Allowed h C a t
+Allowed (kept D s n ∷ h) C a t = Allowed h C a t
+Allowed (allowed D xs s ∷ h) C a t = ((C ≡ D) × List·Memᴰ a xs × (t < s + 300)) ⊎ Allowed h C a t
+Allowed (nothing ∷ h) C a t = Allowed h C a t
+
+-- ---- a port and its holder determine each other
+pub given-port : (h : List Counted) (C : FiveTuple) (R P : ℕ) → Given h C R → Given h C P → R ≡ P
+given-port (gave D Q s n ∷ h) C R P (inl x) (inl y) = x .1 ∙ sym (y .1)
+given-port (gave D Q s n ∷ h) C R P (inl x) (inr y) = absurd (y .0 (x .0))
+given-port (gave D Q s n ∷ h) C R P (inr x) (inl y) = absurd (x .0 (y .0))
+given-port (gave D Q s n ∷ h) C R P (inr x) (inr y) = given-port h C R P (x .2) (y .2)
+given-port (kept D s n ∷ h) C R P x y = given-port h C R P x y
+given-port (allowed D xs s ∷ h) C R P x y = given-port h C R P x y
+given-port (nothing ∷ h) C R P x y = given-port h C R P x y
+
+pub given-holder : (h : List Counted) (C E : FiveTuple) (R : ℕ) → Given h C R → Given h E R → C ≡ E
+given-holder (gave D Q s n ∷ h) C E R (inl x) (inl y) = x .0 ∙ sym (y .0)
+given-holder (gave D Q s n ∷ h) C E R (inl x) (inr y) = absurd (y .1 (x .1))
+given-holder (gave D Q s n ∷ h) C E R (inr x) (inl y) = absurd (x .1 (y .1))
+given-holder (gave D Q s n ∷ h) C E R (inr x) (inr y) = given-holder h C E R (x .2) (y .2)
+given-holder (kept D s n ∷ h) C E R x y = given-holder h C E R x y
+given-holder (allowed D xs s ∷ h) C E R x y = given-holder h C E R x y
+given-holder (nothing ∷ h) C E R x y = given-holder h C E R x y
+
+-- ---- the text of demand 3; `after` is what came after the Allocate, and the newest comes first
+-- or the last accepted Refresh after it counts
+pub record Again (C : FiveTuple) (t : ℕ) (after : List Counted) : Type 0 where
+  pub newer : List Counted
+  pub older : List Counted
+  pub s : ℕ
+  pub n : ℕ
+  pub refresh : after ≡ newer ++ kept C s n ∷ older
+  pub last : (s n : ℕ) → List·Memᴰ (kept C s n) newer → ⊥
+  pub not-zero : n ≢ 0
+  pub not-over : t < s + n
+
+pub record Delivers (h : List Counted) (C : FiveTuple) (R : ℕ) (a : Address) (t : ℕ) : Type 0 where
+  pub after : List Counted
+  pub before : List Counted
+  pub s : ℕ
+  pub n : ℕ
+  pub allocate : h ≡ after ++ gave C R s n ∷ before
+  pub latest : (P s n : ℕ) → List·Memᴰ (gave C P s n) after → ⊥
+  pub alone : (D : FiveTuple) (s n : ℕ) → List·Memᴰ (gave D R s n) after → ⊥
+  pub lifetime : FromAllocate C t s n after ⊎ Again C t after
+  pub permission : Permitted C a t after
+
+-- ---- the text says what the three recursive readings say
+not-in : {A : Type 0} {x d : A} {l : List A} → (x ≡ d → ⊥) → (List·Memᴰ x l → ⊥) → List·Memᴰ x (d ∷ l) → ⊥
+not-in p q (List·Memᴰ·head e) = p e
+not-in p q (List·Memᴰ·tail m) = q m
+
+pub data Is (h : List Counted) (C : FiveTuple) (R : ℕ) : Type 0 where
+  is : (after before : List Counted) (s n : ℕ) → h ≡ after ++ gave C R s n ∷ before
+      → ((P s n : ℕ) → List·Memᴰ (gave C P s n) after → ⊥) → ((D : FiveTuple) (s n : ℕ) → List·Memᴰ (gave D R s n) after → ⊥) → Is h C R
+
+is-more : (d : Counted) (h : List Counted) (C : FiveTuple) (R : ℕ) → ((P s n : ℕ) → gave C P s n ≡ d → ⊥) → ((D : FiveTuple) (s n : ℕ) → gave D R s n ≡ d → ⊥) → Is h C R → Is (d ∷ h) C R
+is-more d h C R p q (is after before s n e l a) =
+    is (d ∷ after) before s n (cc) (λ P s n. not-in (p P s n) (l P s n)) (λ D s n. not-in (q D s n) (a D s n))
+
+given-split : (h : List Counted) (C : FiveTuple) (R : ℕ) → Given h C R → Is h C R
+given-split (gave D P s n ∷ h) C R (inl x) = is [] h s n (cc) (λ P s n m. List·Memᴰ·not-nil m) (λ D s n m. List·Memᴰ·not-nil m)
+given-split (gave D P s n ∷ h) C R (inr x) = is-more (gave D P s n) h C R (λ P₁ s₁ n₁ e. x .0 (cc)) (λ D₁ s₁ n₁ e. x .1 (cc)) (given-split h C R (x .2))
+given-split (kept D s n ∷ h) C R x = is-more (kept D s n) h C R (λ P₁ s₁ n₁ e. let z : _≡_ {A = ℕ} 0 1 = cc in omega arith) (λ D₁ s₁ n₁ e. let z : _≡_ {A = ℕ} 0 1 = cc in omega arith) (given-split h C R x)
+given-split (allowed D xs s ∷ h) C R x = is-more (allowed D xs s) h C R (λ P₁ s₁ n₁ e. let z : _≡_ {A = ℕ} 0 1 = cc in omega arith) (λ D₁ s₁ n₁ e. let z : _≡_ {A = ℕ} 0 1 = cc in omega arith) (given-split h C R x)
+given-split (nothing ∷ h) C R x = is-more nothing h C R (λ P₁ s₁ n₁ e. let z : _≡_ {A = ℕ} 0 1 = cc in omega arith) (λ D₁ s₁ n₁ e. let z : _≡_ {A = ℕ} 0 1 = cc in omega arith) (given-split h C R x)
+
+once-tail : {C : FiveTuple} {t s n : ℕ} {d : Counted} {l : List Counted} → FromAllocate C t s n (d ∷ l) → FromAllocate C t s n l
+once-tail o = record { none-since = λ s n m. o .none-since s n (List·Memᴰ·tail m); not-zero = o .not-zero; not-over = o .not-over }
+
+last-more : {C : FiveTuple} {t s n : ℕ} (d : Counted) {l : List Counted} → ((s n : ℕ) → kept C s n ≡ d → ⊥) → FromAllocate C t s n l ⊎ Again C t l → FromAllocate C t s n (d ∷ l) ⊎ Again C t (d ∷ l)
+last-more d f (inl o) = inl (record { none-since = λ s n. not-in (f s n) (o .none-since s n); not-zero = o .not-zero; not-over = o .not-over })
+last-more d f (inr g) = let e = g .refresh in inr (record { newer = d ∷ g .newer; older = g .older; s = g .s; n = g .n; refresh = cc; last = λ s n. not-in (f s n) (g .last s n); not-zero = g .not-zero; not-over = g .not-over })
+
+permitted-more : {C : FiveTuple} {a : Address} {t : ℕ} {d : Counted} {l : List Counted} → Permitted C a t l → Permitted C a t (d ∷ l)
+permitted-more p = record { addresses = p .addresses; s = p .s; accepted = List·Memᴰ·tail (p .accepted); named = p .named; recent = p .recent }
+
+-- what is in the part after C's latest Allocate
+module _ (C : FiveTuple) (R s n : ℕ) (before : List Counted) where
+  given-join : (after : List Counted) → ((P s n : ℕ) → List·Memᴰ (gave C P s n) after → ⊥) → ((D : FiveTuple) (s n : ℕ) → List·Memᴰ (gave D R s n) after → ⊥) → Given (after ++ gave C R s n ∷ before) C R
+  given-join [] l a = inl (refl, refl)
+  given-join (gave D P s₁ n₁ ∷ h) l a = inr ((λ e. l P s₁ n₁ (List·Memᴰ·head (cc))), (λ e. a D s₁ n₁ (List·Memᴰ·head (cc))), given-join h (λ P s n m. l P s n (List·Memᴰ·tail m)) (λ D s n m. a D s n (List·Memᴰ·tail m)))
+  given-join (kept D s₁ n₁ ∷ h) l a = given-join h (λ P s n m. l P s n (List·Memᴰ·tail m)) (λ D s n m. a D s n (List·Memᴰ·tail m))
+  given-join (allowed D xs s₁ ∷ h) l a = given-join h (λ P s n m. l P s n (List·Memᴰ·tail m)) (λ D s n m. a D s n (List·Memᴰ·tail m))
+  given-join (nothing ∷ h) l a = given-join h (λ P s n m. l P s n (List·Memᴰ·tail m)) (λ D s n m. a D s n (List·Memᴰ·tail m))
+
+  granted-once : (t : ℕ) (after : List Counted) → ((P s n : ℕ) → List·Memᴰ (gave C P s n) after → ⊥) → FromAllocate C t s n after → Granted (after ++ gave C R s n ∷ before) C t
+  granted-once t [] l o = inl (refl, o .not-zero, o .not-over)
+  granted-once t (gave D P s₁ n₁ ∷ h) l o = inr ((λ e. l P s₁ n₁ (List·Memᴰ·head (cc))), granted-once t h (λ P s n m. l P s n (List·Memᴰ·tail m)) (once-tail o))
+  granted-once t (kept D s₁ n₁ ∷ h) l o = inr ((λ e. o .none-since s₁ n₁ (List·Memᴰ·head (cc))), granted-once t h (λ P s n m. l P s n (List·Memᴰ·tail m)) (once-tail o))
+  granted-once t (allowed D xs s₁ ∷ h) l o = granted-once t h (λ P s n m. l P s n (List·Memᴰ·tail m)) (once-tail o)
+  granted-once t (nothing ∷ h) l o = granted-once t h (λ P s n m. l P s n (List·Memᴰ·tail m)) (once-tail o)
+
+  granted-split : (t : ℕ) (after : List Counted) → ((P s n : ℕ) → List·Memᴰ (gave C P s n) after → ⊥) → Granted (after ++ gave C R s n ∷ before) C t → FromAllocate C t s n after ⊎ Again C t after
+  granted-split t [] l (inl x) = inl (record { none-since = λ s n m. List·Memᴰ·not-nil m; not-zero = x .1; not-over = x .2 })
+  granted-split t [] l (inr x) = absurd (x .0 refl)
+  granted-split t (gave D P s₁ n₁ ∷ h) l (inl x) = absurd (l P s₁ n₁ (List·Memᴰ·head (cc)))
+  granted-split t (gave D P s₁ n₁ ∷ h) l (inr x) = last-more (gave D P s₁ n₁) (λ s n e. let z : _≡_ {A = ℕ} 0 1 = cc in omega arith) (granted-split t h (λ P s n m. l P s n (List·Memᴰ·tail m)) (x .1))
+  granted-split t (kept D s₁ n₁ ∷ h) l (inl x) = inr (record { newer = []; older = h; s = s₁; n = n₁; refresh = cc; last = λ s n m. List·Memᴰ·not-nil m; not-zero = x .1; not-over = x .2 })
+  granted-split t (kept D s₁ n₁ ∷ h) l (inr x) = last-more (kept D s₁ n₁) (λ s n e. x .0 (cc)) (granted-split t h (λ P s n m. l P s n (List·Memᴰ·tail m)) (x .1))
+  granted-split t (allowed D xs s₁ ∷ h) l x = last-more (allowed D xs s₁) (λ s n e. let z : _≡_ {A = ℕ} 0 1 = cc in omega arith) (granted-split t h (λ P s n m. l P s n (List·Memᴰ·tail m)) x)
+  granted-split t (nothing ∷ h) l x = last-more nothing (λ s n e. let z : _≡_ {A = ℕ} 0 1 = cc in omega arith) (granted-split t h (λ P s n m. l P s n (List·Memᴰ·tail m)) x)
+
+  allowed-join : (a : Address) (t : ℕ) (after : List Counted) → ((P s n : ℕ) → List·Memᴰ (gave C P s n) after → ⊥) → Permitted C a t after → Allowed (after ++ gave C R s n ∷ before) C a t
+  allowed-join a t after l p = at after l (p .accepted)
+    where
+      at : (after : List Counted) → ((P s n : ℕ) → List·Memᴰ (gave C P s n) after → ⊥) → List·Memᴰ (allowed C (p .addresses) (p .s)) after → Allowed (after ++ gave C R s n ∷ before) C a t
+      at [] l m = absurd (List·Memᴰ·not-nil m)
+      at (gave D P s₁ n₁ ∷ h) l (List·Memᴰ·head e) = let z : _≡_ {A = ℕ} 0 1 = cc in absurd (omega arith)
+      at (gave D P s₁ n₁ ∷ h) l (List·Memᴰ·tail m) = ((λ e. l P s₁ n₁ (List·Memᴰ·head (cc))), at h (λ P s n m. l P s n (List·Memᴰ·tail m)) m)
+      at (kept D s₁ n₁ ∷ h) l (List·Memᴰ·head e) = let z : _≡_ {A = ℕ} 0 1 = cc in absurd (omega arith)
+      at (kept D s₁ n₁ ∷ h) l (List·Memᴰ·tail m) = at h (λ P s n m. l P s n (List·Memᴰ·tail m)) m
+      at (allowed D xs s₁ ∷ h) l (List·Memᴰ·head e) = let q : p .addresses ≡ xs = cc in let r : p .s ≡ s₁ = cc in inl ((cc), rw (← q) (p .named), rw (← r) (p .recent))
+      at (allowed D xs s₁ ∷ h) l (List·Memᴰ·tail m) = inr (at h (λ P s n m. l P s n (List·Memᴰ·tail m)) m)
+      at (nothing ∷ h) l (List·Memᴰ·head e) = let z : _≡_ {A = ℕ} 0 1 = cc in absurd (omega arith)
+      at (nothing ∷ h) l (List·Memᴰ·tail m) = at h (λ P s n m. l P s n (List·Memᴰ·tail m)) m
+
+  allowed-split : (a : Address) (t : ℕ) (after : List Counted) → Allowed (after ++ gave C R s n ∷ before) C a t → Permitted C a t after
+  allowed-split a t [] x = absurd (x .0 refl)
+  allowed-split a t (gave D P s₁ n₁ ∷ h) x = permitted-more (allowed-split a t h (x .1))
+  allowed-split a t (kept D s₁ n₁ ∷ h) x = permitted-more (allowed-split a t h x)
+  allowed-split a t (allowed D xs s₁ ∷ h) (inl x) = let q : allowed C xs s₁ ≡ allowed D xs s₁ = ap (λ (X : FiveTuple). allowed X xs s₁) (x .0) in record { addresses = xs; s = s₁; accepted = List·Memᴰ·head q; named = x .1; recent = x .2 }
+  allowed-split a t (allowed D xs s₁ ∷ h) (inr x) = permitted-more (allowed-split a t h x)
+  allowed-split a t (nothing ∷ h) x = permitted-more (allowed-split a t h x)
+
+granted-again : (C : FiveTuple) (t s n : ℕ) (rest newer : List Counted) → ((P s n : ℕ) → List·Memᴰ (gave C P s n) newer → ⊥) → ((s n : ℕ) → List·Memᴰ (kept C s n) newer → ⊥) → n ≢ 0 → t < s + n → Granted (newer ++ kept C s n ∷ rest) C t
+granted-again C t s n rest [] l k z o = inl (refl, z, o)
+granted-again C t s n rest (gave D P s₁ n₁ ∷ h) l k z o = inr ((λ e. l P s₁ n₁ (List·Memᴰ·head (cc))), granted-again C t s n rest h (λ P s n m. l P s n (List·Memᴰ·tail m)) (λ s n m. k s n (List·Memᴰ·tail m)) z o)
+granted-again C t s n rest (kept D s₁ n₁ ∷ h) l k z o = inr ((λ e. k s₁ n₁ (List·Memᴰ·head (cc))), granted-again C t s n rest h (λ P s n m. l P s n (List·Memᴰ·tail m)) (λ s n m. k s n (List·Memᴰ·tail m)) z o)
+granted-again C t s n rest (allowed D xs s₁ ∷ h) l k z o = granted-again C t s n rest h (λ P s n m. l P s n (List·Memᴰ·tail m)) (λ s n m. k s n (List·Memᴰ·tail m)) z o
+granted-again C t s n rest (nothing ∷ h) l k z o = granted-again C t s n rest h (λ P s n m. l P s n (List·Memᴰ·tail m)) (λ s n m. k s n (List·Memᴰ·tail m)) z o
+
+-- the two readings agree
+pub delivers→ : (h : List Counted) (C : FiveTuple) (R : ℕ) (a : Address) (t : ℕ) → Delivers h C R a t → Given h C R × Granted h C t × Allowed h C a t
+delivers→ h C R a t d = rw (d .allocate) (given-join C R _ _ _ _ (d .latest) (d .alone), lasts (d .lifetime), allowed-join C R _ _ _ a t _ (d .latest) (d .permission))
+  where
+    lasts : FromAllocate C t (d .s) (d .n) (d .after) ⊎ Again C t (d .after) → Granted (d .after ++ gave C R (d .s) (d .n) ∷ d .before) C t
+    lasts (inl o) = granted-once C R _ _ _ t _ (d .latest) o
+    lasts (inr g) = rw (g .refresh) (rw append-assoc (granted-again C t (g .s) (g .n) _ (g .newer) (λ P s n m. d .latest P s n (rw (g .refresh) (Memᴰ·append-left _ m))) (g .last) (g .not-zero) (g .not-over)))
+
+pub delivers← : (h : List Counted) (C : FiveTuple) (R : ℕ) (a : Address) (t : ℕ) → Given h C R → Granted h C t → Allowed h C a t → Delivers h C R a t
+delivers← h C R a t g l p = go (given-split h C R g)
+  where
+    go : Is h C R → Delivers h C R a t
+    go (is after before s n e la al) = record { after = after; before = before; s = s; n = n; allocate = e; latest = la; alone = al; lifetime = granted-split C R s n before t after la (rw e at l); permission = allowed-split C R s n before a t after (rw e at p) }

@@ -1,0 +1,283 @@
+-- The tie between the table and the history, for every list of calls, the newest first; and whom a peer's datagram reaches.
+use Prim.Native.Nat.{ℕ, zero, suc, _+_, _<_, _≤_, _^_}
+use mathlib.Core.Path.{_≡_, refl, sym, _∙_, ap, subst}
+use mathlib.Core.Logic.{_≢_, _⊎_, inl, inr, _↔_}
+use mathlib.Core.Bool.{Bool, true, false, not, false≢true}
+use mathlib.Core.List.{List, [], _∷_}
+use native.Mathlib.Omega.{arith}
+use native.Mathlib.Nat.{le-refl, not-suc-le-zero}
+use lib.Dec.{eqb, ltb}
+use lib.ListN.{length, replicate}
+use borrow.Author.Tests.{ltb-false, eqb-true, not-true, not-false}
+use Rattle.choice.specs.Choice.{pick}
+use Rattle.address.specs.declared.Address.{Address}
+use Rattle.address.specs.declared.Address.the-variants.{V4}
+use Rattle.address.specs.declared.FiveTuple.{FiveTuple}
+use Rattle.address.specs.declared.TransactionId.{TransactionId}
+use Rattle.table.specs.declared.Slot.{Slot}
+use Rattle.table.specs.declared.Found.{Found}
+use Rattle.table.specs.declared.Found.the-variants.{At, Nothing}
+use Rattle.table.specs.Search.{find, has}
+use Rattle.table.specs.Table.{freshSlot, permits, holdsPort}
+use Rattle.slots.specs.Slots.{slotAt, inSlot, keyed}
+use Rattle.rules.specs.declared.answer.Outcome.{Outcome}
+use Rattle.rules.specs.declared.answer.Outcome.the-variants.{Refused, Dropped, ToClient}
+use Rattle.rules.specs.Act as rules
+use Rattle.rules.specs.Act.{Out, dropped, toClient, Change, keep, write}
+use Rattle.rules.specs.Values.{isIpv6}
+use Rattle.rules.specs.Data.{permitted, relayed, fromPeer}
+use Rattle.rules.specs.Client.{isAllocate}
+use Rattle.relay.specs.declared.calls.Call.{Call}
+use Rattle.relay.specs.declared.calls.Call.the-variants.{Client, Peer}
+use Rattle.relay.specs.declared.calls.FromPeer.{FromPeer}
+use Rattle.relay.specs.Step.{Act, refuse, stay, put, outcomeOf, replyAfter, slotsAfter, clockAfter, timeOf, refusal, place, ifFound, placeOf, lowest, allocateAct, foundAct, allocates, clientOf, acceptedAct, act}
+use Rattle.relay.proofs.Laws.{not-refused, allocate-clock, found-clock}
+use Rattle.history.specs.Counted.{Counted, nothing}
+use Rattle.client_reader.specs.Fields.{Bytes}
+use Rattle.history.specs.Events.{CallFits, Arrival, State, empty, outcome, replied, next, countsBy}
+use Rattle.history.specs.Statement.{Live, Apart, FromIpv4}
+use Rattle.history.proofs.Readings.{given-holder, Delivers, delivers→, delivers←}
+use Rattle.history.proofs.Table as table
+use Rattle.history.proofs.Table.{HasPermission, Inv, own-port, inv-later, Reach, reach→, reach←}
+use Rattle.history.proofs.Keep.{keep as keep-inv}
+use Rattle.history.proofs.Tests.{find-some, port-is, none-port, has-permission→, has-permission←}
+use Rattle.history.proofs.Made.{quiet, Made, made-allocate, made-found}
+
+-- ---- The empty relay
+fresh-slots : (n i : ℕ) → slotAt (replicate n freshSlot) i ≡ freshSlot
+fresh-slots zero i = refl
+fresh-slots (suc n) zero = refl
+fresh-slots (suc n) (suc i) = fresh-slots n i
+
+none-live : (i : ℕ) → Live 0 (slotAt (empty .slots) i) → ⊥
+unfolding freshSlot
+none-live i x = not-suc-le-zero (rw (fresh-slots 64 i) at x)
+
+inv-empty : Inv 0 (slotAt (empty .slots)) []
+inv-empty = record {
+  own = λ i j x. absurd (none-live i x);
+  neat = λ i x. absurd (none-live i x);
+  given = λ i x. absurd (none-live i x);
+  granted→ = λ i x. absurd (none-live i x);
+  granted← = λ C t le g. absurd g;
+  allowed→ = λ i x. absurd (none-live i x);
+  allowed← = λ i x. absurd (none-live i x);
+}
+
+-- ---- One call
+refused-counts : (call : Call) (s : List ℕ) (number : ℕ) (reply : List ℕ) → countsBy call s (Refused number) reply ≡ nothing
+refused-counts (Client call) s number reply = refl
+refused-counts (Peer call) s number reply = refl
+
+passed-by : (b : Bool) (n rest : ℕ) → pick b (suc n) rest ≡ 0 → rest ≡ 0
+passed-by true n rest e = let y : ⊥ = omega arith in absurd y
+passed-by false n rest e = e
+
+-- a call that is not refused is not before the clock
+last-check : (t clock : ℕ) → _≡_ {A = ℕ} (pick (ltb t clock) 1 0) 0 → clock ≤ t
+last-check t clock e = go (ltb t clock) refl e
+  where
+    go : (b : Bool) → ltb t clock ≡ b → _≡_ {A = ℕ} (pick b 1 0) 0 → clock ≤ t
+    go true q e = let y : ⊥ = omega arith in absurd y
+    go false q e = ltb-false t clock q
+
+not-before : (clock slots s reply : ℕ) (call : Call) → refusal clock slots s reply call ≡ 0 → clock ≤ timeOf call
+unfolding refusal
+not-before clock slots s reply (Client call) e =
+    let a = passed-by (ltb reply 1536) 2 _ e in
+    let b = passed-by (not (eqb slots 64)) 5 _ a in
+    let c = passed-by (ltb 1500 s) 3 _ b in
+    let d = passed-by (not (eqb (call .«five_tuple» .protocol) 17)) 6 _ c in
+    let f = passed-by (ltb 32 (call .user)) 4 _ d in
+    last-check (call .time) clock (passed-by (ltb (2 ^ 40) (call .time)) 1 _ f)
+not-before clock slots s reply (Peer call) e =
+    let a = passed-by (ltb reply 1536) 2 _ e in
+    let b = passed-by (not (eqb slots 64)) 5 _ a in
+    let c = passed-by (ltb 1500 s) 3 _ b in
+    last-check (call .time) clock (passed-by (ltb (2 ^ 40) (call .time)) 1 _ c)
+
+-- an act that is not a refusal sets the clock
+clock-accepted : (clock t : ℕ) (call : Call) (l : List Slot) (s : List ℕ) → clockAfter clock t (acceptedAct call l s) ≡ t
+clock-accepted clock t call l s = go (allocates call s)
+  where
+    go : (b : Bool) → clockAfter clock t (pick b (allocateAct (clientOf call) l s) (foundAct call l s)) ≡ t
+    go true = allocate-clock clock t (clientOf call) l s
+    go false = found-clock clock t call l s
+
+-- a peer's datagram changes no slot
+lowest-keep : (found : Found) (out : Out) → lowest found (keep out) ≡ stay out
+lowest-keep (At k) out = refl
+lowest-keep Nothing out = refl
+
+peer-out : FromPeer → List Slot → List ℕ → Out
+peer-out call l s =
+    let found = find (inSlot (holdsPort (call .time) (call .port))) l in
+    let slot = slotAt l (placeOf found) in
+    pick (not (has found)) dropped
+    (pick (isIpv6 (call .source .address)) dropped
+    (pick (not (permitted (call .time) (call .source) slot)) dropped
+    (toClient (slot .allocation .«five_tuple») (relayed (call .time) (call .source) (call .id) s slot))))
+
+peer-stays : (call : FromPeer) (l : List Slot) (s : List ℕ) → acceptedAct (Peer call) l s ≡ stay (peer-out call l s)
+unfolding foundAct keyed fromPeer peer-out
+peer-stays call l s = lowest-keep (find (inSlot (holdsPort (call .time) (call .port))) l) _
+
+-- what an accepted call does to the table
+made : (call : Call) (l : List Slot) (s reply : List ℕ) → length l ≡ 64 → CallFits call → Bytes s
+    → table.Change (timeOf call) (slotAt l) (slotAt (slotsAfter l (acceptedAct call l s)))
+    (countsBy call s (outcomeOf (acceptedAct call l s)) (replyAfter reply (acceptedAct call l s)))
+made (Client call) l s reply full fits bytes = go (isAllocate s)
+  where
+    go : (b : Bool) → Made call l s reply full fits bytes (pick b (allocateAct call l s) (foundAct (Client call) l s))
+    go true = made-allocate call l s reply full fits bytes
+    go false = made-found call l s reply full fits bytes
+made (Peer call) l s reply full fits bytes = rw (peer-stays call l s) (quiet (call .time) (slotAt l))
+
+-- what a call counts as
+abbrev pub countOf : State → Arrival → Counted
+countOf st a = countsBy (a .call) (a .datagram) (outcome st a) (replied st a)
+
+module _ (st : State) (a : Arrival) (h : List Counted) (I : Inv (st .clock) (slotAt (st .slots)) h) where
+  -- the tie after an act
+  abbrev After : Act → Type 0
+  After x =
+      Inv (clockAfter (st .clock) (timeOf (a .call)) x) (slotAt (slotsAfter (st .slots) x)) (countsBy (a .call) (a .datagram) (outcomeOf x) (replyAfter (a .reply) x) ∷ h)
+
+  inv-refused : (number : ℕ) → After (refuse number)
+  inv-refused number = rw (refused-counts (a .call) (a .datagram) number (a .reply)) (keep-inv _ _ _ _ h nothing (le-refl _) I (quiet _ _))
+
+  inv-accepted : refusal (st .clock) (length (st .slots)) (length (a .datagram)) (length (a .reply)) (a .call) ≡ 0 → After (acceptedAct (a .call) (st .slots) (a .datagram))
+  inv-accepted e =
+      let w = not-refused (st .clock) (st .slots) (a .datagram) (a .reply) (a .call) e in
+      rw (clock-accepted (st .clock) (timeOf (a .call)) (a .call) (st .slots) (a .datagram))
+      (keep-inv _ (timeOf (a .call)) _ _ h _ (not-before _ _ _ _ (a .call) e) I (made (a .call) (st .slots) (a .datagram) (a .reply) (w .sixty-four) (a .call-fits) (a .bytes)))
+
+  inv-call : Inv (next st a .clock) (slotAt (next st a .slots)) (countOf st a ∷ h)
+  unfolding act
+  inv-call = go (eqb number 0) refl
+    where
+      number : ℕ
+      number = refusal (st .clock) (length (st .slots)) (length (a .datagram)) (length (a .reply)) (a .call)
+
+      go : (b : Bool) → eqb number 0 ≡ b → After (pick b (acceptedAct (a .call) (st .slots) (a .datagram)) (refuse number))
+      go true e = inv-accepted (eqb-true number 0 e)
+      go false e = inv-refused number
+
+-- ---- Every list of calls, the newest first
+unfoldable pub after : List Arrival → State
+after [] = empty
+after (a ∷ past) = next (after past) a
+
+unfoldable pub history : List Arrival → List Counted
+history [] = []
+history (a ∷ past) = countOf (after past) a ∷ history past
+
+tie : (past : List Arrival) → Inv (after past .clock) (slotAt (after past .slots)) (history past)
+unfolding after history
+tie [] = inv-empty
+tie (a ∷ past) = inv-call (after past) a (history past) (tie past)
+
+pub apart : (past : List Arrival) (t : ℕ) → after past .clock ≤ t → Apart (after past .slots) t
+apart past t le =
+    let I : Inv t (slotAt (after past .slots)) (history past) = inv-later _ t _ _ le (tie past) in
+    record {
+      five-tuples = I .own;
+      ports = own-port t _ _ I;
+      permissions = λ k x. I .neat k x .perms .one-perm;
+      numbers = λ k x. I .neat k x .chans .one-num;
+      peers = λ k x. I .neat k x .chans .one-peer;
+    }
+
+-- ---- Whom a peer's datagram reaches
+
+-- it reaches the client whose live slot has the port and the permission, or nobody
+data Verdict (l : List Slot) (t R : ℕ) (a : Address) (o : Outcome) : Type 0 where
+  reaches : (C : FiveTuple) (n : ℕ) → o ≡ ToClient C n → Reach (slotAt l) C R a t → Verdict l t R a o
+  to-none : o ≡ Dropped → ((C : FiveTuple) → Reach (slotAt l) C R a t → ⊥) → Verdict l t R a o
+
+module _ (l : List Slot) (t x p R : ℕ) (id : TransactionId) (s : List ℕ)
+    (one : (i j : ℕ) → Live t (slotAt l i) → Live t (slotAt l j) → slotAt l i .allocation .port ≡ slotAt l j .allocation .port → i ≡ j) where
+  abbrev call : FromPeer
+  call = record { time = t; source = record { address = V4 x; port = p }; port = R; id = id }
+
+  arrives : Verdict l t R (V4 x) (rules.outcomeOf (peer-out call l s))
+  unfolding peer-out permitted
+  arrives = go (find (inSlot (holdsPort t R)) l) refl
+    where
+      Sent : Slot → Out
+      Sent slot = toClient (slot .allocation .«five_tuple») (relayed t (call .source) id s slot)
+
+      at : (k : ℕ) → find (inSlot (holdsPort t R)) l ≡ At k → (b : Bool) → has (find (permits t (V4 x)) (slotAt l k .permissions)) ≡ b
+          → Verdict l t R (V4 x) (rules.outcomeOf (pick (not b) dropped (Sent (slotAt l k))))
+      at k e true q =
+          let f = port-is t R (slotAt l k) (find-some (inSlot (holdsPort t R)) l freshSlot k e .0) in
+          reaches _ _ refl (record { i = k; live = f .0; who = refl; port = f .1; perm = has-permission→ t (V4 x) _ q })
+      at k e false q =
+          let f = port-is t R (slotAt l k) (find-some (inSlot (holdsPort t R)) l freshSlot k e .0) in
+          to-none refl
+          (λ C r. let same : r .i ≡ k = one (r .i) k (r .live) (f .0) (r .port ∙ sym (f .1)) in has-permission← t (V4 x) _ q (rw same at (r .perm)))
+
+      go : (f : Found) → find (inSlot (holdsPort t R)) l ≡ f
+          → Verdict l t R (V4 x) (rules.outcomeOf (pick (not (has f)) dropped (pick (not (has (find (permits t (V4 x)) (slotAt l (placeOf f) .permissions)))) dropped (Sent (slotAt l (placeOf f))))))
+      go Nothing e = to-none refl (λ C r. none-port t R l e (r .i) (r .live) (r .port))
+      go (At k) e = at k e (has (find (permits t (V4 x)) (slotAt l k .permissions))) refl
+
+-- in a call that is not refused
+module _ (past : List Arrival) (a : Arrival) (R x t : ℕ) (from : FromIpv4 a R x t) (nr : (number : ℕ) → outcome (after past) a ≢ Refused number) where
+  reached : (after past .clock ≤ t) × Verdict (after past .slots) t R (V4 x) (outcome (after past) a)
+  unfolding act
+  reached = rw (from .2) (go (eqb number 0) refl (rw (from .2) at nr))
+    where
+      st : State
+      st = after past
+
+      c : Call
+      c = Peer (record { time = t; source = record { address = V4 x; port = from .0 }; port = R; id = from .1 })
+
+      number : ℕ
+      number = refusal (st .clock) (length (st .slots)) (length (a .datagram)) (length (a .reply)) c
+
+      go : (b : Bool) → eqb number 0 ≡ b
+          → ((n : ℕ) → outcomeOf (pick b (acceptedAct c (st .slots) (a .datagram)) (refuse number)) ≢ Refused n)
+          → (st .clock ≤ t) × Verdict (st .slots) t R (V4 x) (outcomeOf (pick b (acceptedAct c (st .slots) (a .datagram)) (refuse number)))
+      go true e nr =
+          let le : st .clock ≤ t = not-before _ _ _ _ c (eqb-true number 0 e) in
+          (le, rw (peer-stays _ (st .slots) (a .datagram)) (arrives (st .slots) t x (from .0) R (from .1) (a .datagram) (apart past t le .ports)))
+      go false e nr = absurd (nr number refl)
+
+  -- the table and the history agree on whom it reaches
+  says : (C : FiveTuple) → after past .clock ≤ t → Reach (slotAt (after past .slots)) C R (V4 x) t ↔ Delivers (history past) C R (V4 x) t
+  says C le = (
+    λ r. let g = reach→ _ _ _ (tie past) C R (V4 x) t le r in delivers← _ C R (V4 x) t (g .0) (g .1) (g .2),
+    λ d. let g = delivers→ _ C R (V4 x) t d in reach← _ _ _ (tie past) C R (V4 x) t le (g .0) (g .1) (g .2),
+  )
+
+  one-holder : (C D : FiveTuple) → Delivers (history past) C R (V4 x) t → Delivers (history past) D R (V4 x) t → C ≡ D
+  one-holder C D u v = given-holder (history past) C D R (delivers→ (history past) C R (V4 x) t u .0) (delivers→ (history past) D R (V4 x) t v .0)
+
+  -- it goes to C exactly when the history says so
+  pub delivery : (C : FiveTuple) → ((n : ℕ) × (outcome (after past) a ≡ ToClient C n)) ↔ Delivers (history past) C R (V4 x) t
+  delivery C = go (reached .0) (reached .1)
+    where
+      go : after past .clock ≤ t → Verdict (after past .slots) t R (V4 x) (outcome (after past) a)
+          → ((n : ℕ) × (outcome (after past) a ≡ ToClient C n)) ↔ Delivers (history past) C R (V4 x) t
+      go le (reaches D n e r) =
+          let d = says D le .0 r in (
+            λ u. let q : D ≡ C = same D C n (u .0) (sym e ∙ u .1) in rw q at d,
+            λ g. (n, e ∙ ap (λ (z : FiveTuple). ToClient z n) (one-holder D C d g)),
+          )
+        where
+          same : (X Y : FiveTuple) (m k : ℕ) → ToClient X m ≡ ToClient Y k → X ≡ Y
+          same X Y m k q = cc
+      go le (to-none e f) = (λ u. differ (u .0) (sym e ∙ u .1), λ g. absurd (f C (says C le .1 g)))
+        where
+          differ : {A : Type 0} (n : ℕ) → Dropped ≡ ToClient C n → A
+          differ n q = let z : _≡_ {A = ℕ} 0 1 = cc in let y : ⊥ = omega arith in absurd y
+
+  -- otherwise to nobody
+  pub nobody : ((C : FiveTuple) → Delivers (history past) C R (V4 x) t → ⊥) → outcome (after past) a ≡ Dropped
+  nobody none = go (reached .0) (reached .1)
+    where
+      go : after past .clock ≤ t → Verdict (after past .slots) t R (V4 x) (outcome (after past) a) → outcome (after past) a ≡ Dropped
+      go le (reaches C n e r) = absurd (none C (says C le .0 r))
+      go le (to-none e f) = e

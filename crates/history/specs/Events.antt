@@ -1,0 +1,117 @@
+-- Calls, the relay after them, and the events that they make: a call with the outcome and the reply that came back.
+use Prim.Native.Nat.{ℕ, _<_, _^_}
+use mathlib.Core.List.{List, [], _∷_, map}
+use lib.ListN.{length, take, replicate}
+use Rattle.address.specs.declared.Address.{Address}
+use Rattle.address.specs.declared.FiveTuple.{FiveTuple}
+use Rattle.address.specs.declared.Peer.{Peer as Transport}
+use Rattle.stun.specs.declared.kinds.Method.{Method}
+use Rattle.stun.specs.declared.kinds.Method.the-variants.{Allocate, Refresh, CreatePermission, ChannelBind}
+use Rattle.stun.specs.declared.values.AddressValue.{AddressValue}
+use Rattle.stun.specs.Values.{peers, firstPeer}
+use Rattle.table.specs.declared.Slot.{Slot}
+use Rattle.table.specs.Table.{freshSlot}
+use Rattle.rules.specs.declared.answer.Outcome.{Outcome}
+use Rattle.rules.specs.declared.answer.Outcome.the-variants.{Refused, Dropped, ToClient, ToPeer}
+use Rattle.relay.specs.declared.calls.Call.{Call}
+use Rattle.relay.specs.declared.calls.Call.the-variants.{Client, Peer}
+use Rattle.relay.specs.declared.calls.FromClient.{FromClient}
+use Rattle.relay.specs.Step.{timeOf, act, outcomeOf, replyAfter, slotsAfter, clockAfter}
+use Rattle.client_reader.specs.declared.Message.{Message}
+use Rattle.client_reader.specs.declared.Message.the-variants.{AllocateSuccess, RefreshSuccess, BareSuccess, Error, UnknownAttributes, DataIndication, ChannelData, Nothing}
+use Rattle.client_reader.specs.Fields.{Bytes, AddressFits}
+use Rattle.client_reader.specs.Reader.{readOf}
+use Rattle.history.specs.Counted.{Counted, gave, kept, allowed, nothing}
+
+-- ---- Calls
+
+abbrev pub TransportFits : Transport → Type 0
+TransportFits p = AddressFits (p .address) × (p .port < 2 ^ 16)
+
+-- the numbers that a call brings are of their types
+abbrev pub CallFits : Call → Type 0
+CallFits (Client call) = (call .relay < 2 ^ 32) × TransportFits (call .«five_tuple» .client)
+CallFits (Peer call) = TransportFits (call .source)
+
+-- a client's or a peer's datagram with everything it brings: 'Each call brings its own datagram and buffer'
+pub record Arrival : Type 0 where
+  pub call : Call
+  pub datagram : List ℕ
+  pub reply : List ℕ
+  pub call-fits : CallFits call
+  pub bytes : Bytes datagram
+
+-- ---- The relay
+
+pub record State : Type 0 where
+  pub clock : ℕ
+  pub slots : List Slot
+
+-- 'An empty relay is a fresh one.'
+abbrev pub empty : State
+empty = record { clock = 0; slots = replicate 64 freshSlot }
+
+-- a call's outcome, the first n bytes of its reply where it goes to a client, and the relay as the call leaves it
+abbrev pub outcome : State → Arrival → Outcome
+outcome st a = outcomeOf (act (st .clock) (st .slots) (a .call) (a .datagram) (length (a .reply)))
+
+abbrev pub replied : State → Arrival → List ℕ
+replied st a = replyAfter (a .reply) (act (st .clock) (st .slots) (a .call) (a .datagram) (length (a .reply)))
+
+abbrev pub next : State → Arrival → State
+next st a =
+    let done = act (st .clock) (st .slots) (a .call) (a .datagram) (length (a .reply)) in
+    record { clock = clockAfter (st .clock) (timeOf (a .call)) done; slots = slotsAfter (st .slots) done }
+
+-- 'each gets the relay as the last one left it'
+abbrev pub run : State → List Arrival → State
+run st [] = st
+run st (a ∷ rest) = run (next st a) rest
+
+-- ---- Events
+
+pub record Event : Type 0 where
+  pub arrival : Arrival
+  pub outcome : Outcome
+  pub reply : List ℕ
+
+abbrev pub events : State → List Arrival → List Event
+events st [] = []
+events st (a ∷ rest) = record { arrival = a; outcome = outcome st a; reply = replied st a } ∷ events (next st a) rest
+
+-- ---- What an event counts as: 'Requests count by what they bring and what comes back, never by a slot'
+
+-- 'CreatePermission is for every peer address it reads, ChannelBind for the first.'
+abbrev pub addressesOf : List AddressValue → List Address
+addressesOf l = map (λ v. v .peer .address) l
+
+-- 'XOR-RELAYED-ADDRESS there has the port given, LIFETIME the seconds granted'
+abbrev pub countsAs : FromClient → List ℕ → Message → Counted
+countsAs call s (AllocateSuccess id relay port seconds client) = gave (call .«five_tuple») port (call .time) seconds
+countsAs call s (RefreshSuccess id seconds) = kept (call .«five_tuple») (call .time) seconds
+countsAs call s (BareSuccess Allocate id) = nothing
+countsAs call s (BareSuccess Refresh id) = nothing
+countsAs call s (BareSuccess CreatePermission id) = allowed (call .«five_tuple») (addressesOf (peers s)) (call .time)
+countsAs call s (BareSuccess ChannelBind id) = allowed (call .«five_tuple») (firstPeer s .peer .address ∷ []) (call .time)
+countsAs call s (Error method id code) = nothing
+countsAs call s (UnknownAttributes method id count) = nothing
+countsAs call s (DataIndication id peer port start len) = nothing
+countsAs call s (ChannelData number start len) = nothing
+countsAs call s Nothing = nothing
+
+-- 'accepted is one whose outcome is a success response', read off the reply's bytes by the clients' reader
+abbrev pub countsBy : Call → List ℕ → Outcome → List ℕ → Counted
+countsBy (Client call) s (Refused number) reply = nothing
+countsBy (Client call) s Dropped reply = nothing
+countsBy (Client call) s (ToClient fiveTuple n) reply = countsAs call s (readOf (take n reply) .message)
+countsBy (Client call) s (ToPeer port peer start len) reply = nothing
+countsBy (Peer call) s outcome reply = nothing
+
+-- the events before it are given too: a later rule needs them
+abbrev pub counts : List Event → Event → Counted
+counts before e = countsBy (e .arrival .call) (e .arrival .datagram) (e .outcome) (e .reply)
+
+-- the list of events as demand 3 counts them, in their order; `before` is what came before them
+abbrev pub counted : List Event → List Event → List Counted
+counted before [] = []
+counted before (e ∷ rest) = counts before e ∷ counted (e ∷ before) rest
