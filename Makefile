@@ -6,8 +6,8 @@ test:
 	rt ci
 
 run:
-	rt check vectors
-	target/bin/vectors
+	rt check sample
+	target/bin/sample
 
 fmt:
 	rt fmt
