@@ -8,3 +8,5 @@ pub mod FreePort
 pub mod Made
 pub mod Whole
 pub mod Demand
+pub mod Codes
+pub mod ReadBack

@@ -124,7 +124,7 @@ error-unaccepted fiveTuple method s code = record {
 }
 
 -- ---- What a success counts as
-id-fits : (s : List ℕ) → Bytes s → IdFits (transactionId s)
+pub id-fits : (s : List ℕ) → Bytes s → IdFits (transactionId s)
 unfolding transactionId
 id-fits s h = (num-lt s h 8 4, num-lt s h 12 4, num-lt s h 16 4)
 

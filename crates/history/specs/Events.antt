@@ -19,7 +19,7 @@ use Rattle.relay.specs.declared.calls.FromClient.{FromClient}
 use Rattle.relay.specs.Step.{timeOf, act, outcomeOf, replyAfter, slotsAfter, clockAfter}
 use Rattle.client_reader.specs.declared.Message.{Message}
 use Rattle.client_reader.specs.declared.Message.the-variants.{AllocateSuccess, RefreshSuccess, BareSuccess, Error, UnknownAttributes, DataIndication, ChannelData, Nothing}
-use Rattle.client_reader.specs.Fields.{Bytes, AddressFits}
+use Rattle.client_reader.specs.Fields.{Bytes, IdFits, AddressFits}
 use Rattle.client_reader.specs.Reader.{readOf}
 use Rattle.history.specs.Counted.{Counted, gave, kept, allowed, nothing}
 
@@ -31,7 +31,7 @@ TransportFits p = AddressFits (p .address) × (p .port < 2 ^ 16)
 -- the numbers that a call brings are of their types
 abbrev pub CallFits : Call → Type 0
 CallFits (Client call) = (call .relay < 2 ^ 32) × TransportFits (call .«five_tuple» .client)
-CallFits (Peer call) = TransportFits (call .source)
+CallFits (Peer call) = TransportFits (call .source) × IdFits (call .id)
 
 -- a client's or a peer's datagram with everything it brings: 'Each call brings its own datagram and buffer'
 pub record Arrival : Type 0 where
