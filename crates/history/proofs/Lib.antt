@@ -10,3 +10,4 @@ pub mod Whole
 pub mod Demand
 pub mod Codes
 pub mod ReadBack
+pub mod Corollaries
