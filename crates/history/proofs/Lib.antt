@@ -11,3 +11,4 @@ pub mod Demand
 pub mod Codes
 pub mod ReadBack
 pub mod Corollaries
+pub mod Sample
