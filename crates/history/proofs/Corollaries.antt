@@ -2,24 +2,21 @@
 use Prim.Native.Nat.{ℕ, _+_, _≤_}
 use mathlib.Core.Path.{_≡_, sym, subst}
 use mathlib.Core.Logic.{_≢_}
-use mathlib.Core.List.{List, [], _∷_, _++_, List·Memᴰ, List·Memᴰ·tail}
+use mathlib.Core.List.{List, [], List·Memᴰ, List·Memᴰ·tail, Memᴰ·append-right}
 use native.Mathlib.Omega.{arith}
 use Rattle.address.specs.declared.Address.{Address}
 use Rattle.address.specs.declared.Address.the-variants.{V4}
 use Rattle.address.specs.declared.FiveTuple.{FiveTuple}
 use Rattle.rules.specs.declared.answer.Outcome.the-variants.{Refused, Dropped, ToClient}
-use Rattle.history.specs.Counted.{Counted, gave, allowed}
+use Rattle.history.specs.Counted.{Counted, allowed}
 use Rattle.history.specs.Events.{Arrival, empty, outcome, run, events, counted}
 use Rattle.history.specs.Statement.{GoesTo, FromIpv4}
 use Rattle.history.proofs.Demand.{demand-3}
+use Rattle.history.proofs.Own.{about, goes-alike}
 
 -- what a list of calls counts as
 abbrev pub told : List Arrival → List Counted
 told calls = counted [] (events empty calls)
-
-mem-later : {A : Type 0} {x : A} (before : List A) (y : A) (since : List A) → List·Memᴰ x since → List·Memᴰ x (before ++ y ∷ since)
-mem-later [] y since m = List·Memᴰ·tail m
-mem-later (z ∷ before) y since m = List·Memᴰ·tail (mem-later before y since m)
 
 -- every request of C for address a that the list counts was accepted 300 seconds ago or more
 abbrev pub Lapsed : List Counted → FiveTuple → Address → ℕ → Type 0
@@ -29,7 +26,7 @@ lapsed-not : (list : List Counted) (C : FiveTuple) (R : ℕ) (a : Address) (t : 
 lapsed-not list C R a t none g =
     let p = g .permission in
     let m : List·Memᴰ (allowed C (p .addresses) (p .s)) list =
-    subst (List·Memᴰ (allowed C (p .addresses) (p .s))) (sym (g .allocate)) (mem-later (g .before) (gave C R (g .s) (g .n)) (g .since) (p .accepted)) in
+    subst (List·Memᴰ (allowed C (p .addresses) (p .s))) (sym (g .allocate)) (Memᴰ·append-right (g .before) (List·Memᴰ·tail (p .accepted))) in
     let late = none (p .addresses) (p .s) m (p .named) in
     omega (arith, p .recent)
 
@@ -42,9 +39,9 @@ module _ (calls : List Arrival) (a : Arrival) (R x t : ℕ) (from : FromIpv4 a R
   pub stays-shut : (C : FiveTuple) → Lapsed (told calls) C (V4 x) t → (n : ℕ) → outcome (run empty calls) a ≡ ToClient C n → ⊥
   stays-shut C none n e = lapsed-not (told calls) C R (V4 x) t none (demand-3 calls .goes-to a R x t from nr C .0 (n, e))
 
-  -- whom a peer reaches is told by what the calls count as alone: two lists that count alike send it to the same client
-  pub same-history : (others : List Arrival) (b : Arrival) → FromIpv4 b R x t → ((number : ℕ) → outcome (run empty others) b ≢ Refused number) → told calls ≡ told others
-      → (C : FiveTuple) → ((n : ℕ) × (outcome (run empty calls) a ≡ ToClient C n)) → (n : ℕ) × (outcome (run empty others) b ≡ ToClient C n)
-  same-history others b from′ nr′ e C sent =
-      demand-3 others .goes-to b R x t from′ nr′ C .1
-      (subst (λ (list : List Counted). GoesTo list C R (V4 x) t) e (demand-3 calls .goes-to a R x t from nr C .0 sent))
+  -- what C receives depends only on its own accepted requests and on who was given its port: two lists of calls alike in these reach C alike
+  pub own-history : (others : List Arrival) (b : Arrival) → FromIpv4 b R x t → ((number : ℕ) → outcome (run empty others) b ≢ Refused number) → (C : FiveTuple)
+      → about C R (told calls) ≡ about C R (told others)
+      → ((n : ℕ) × (outcome (run empty calls) a ≡ ToClient C n)) → (n : ℕ) × (outcome (run empty others) b ≡ ToClient C n)
+  own-history others b from′ nr′ C e sent =
+      demand-3 others .goes-to b R x t from′ nr′ C .1 (goes-alike C R (told calls) (told others) e (demand-3 calls .goes-to a R x t from nr C .0 sent))

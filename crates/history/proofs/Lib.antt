@@ -10,5 +10,6 @@ pub mod Whole
 pub mod Demand
 pub mod Codes
 pub mod ReadBack
+pub mod Own
 pub mod Corollaries
 pub mod Sample

@@ -53,14 +53,14 @@ use Rattle.client_reader.specs.declared.Message.the-variants as Is
 use Rattle.client_reader.specs.declared.ReadMessage.{ReadMessage}
 use Rattle.client_reader.specs.Fields.{Bytes, IdFits, AddressFits, IsBare, IsMessage, InRange, written}
 use Rattle.client_reader.specs.Reader.{plain, readOf}
-use Rattle.client_reader.proofs.Laws.{read-allocate, read-refresh, read-bare, read-error, read-unknown, read-indication, read-channel-data}
+use Rattle.client_reader.proofs.Laws.{unique, read-allocate, read-refresh, read-bare, read-error, read-unknown, read-indication, read-channel-data}
 use Rattle.history.specs.Events.{CallFits, TransportFits, Arrival, State, outcome, replied}
 use Rattle.history.proofs.Tests.{find-some, leads-is}
 use Rattle.history.proofs.FreePort.{port-fits}
 use Rattle.history.proofs.Replies.{id-fits}
 use Rattle.history.proofs.Codes.{Coded, allocate-coded, refresh-coded, permission-coded, channel-coded, types-in-range}
 
--- fields in range that make these bytes, so the only such fields (the reader's law `unique`), and the reader gives them
+-- fields in range that make these bytes, and the reader gives them
 pub record ReadBack (message : List ℕ) : Type 0 where
   pub fields : ReadMessage
   pub is-message : IsMessage fields
@@ -72,6 +72,10 @@ abbrev pub Readable : Out → Type 0
 Readable dropped = Unit
 Readable (toClient fiveTuple message) = ReadBack message
 Readable (toPeer port peer start len) = Unit
+
+-- no other fields make them: what is read is what was put in
+pub only-fields : {message : List ℕ} (r : ReadBack message) (m : ReadMessage) → IsMessage m → InRange m message → written m message ≡ message → m ≡ r .fields
+only-fields {message} r m is h w = unique message m (r .fields) is (r .is-message) h (r .in-range) w (r .made)
 
 unless : (b : Bool) (out : Out) → Readable out → Readable (pick b dropped out)
 unless true out r = tt

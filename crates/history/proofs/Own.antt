@@ -1,0 +1,183 @@
+-- Whom a peer reaches depends on few of the counted events: for C at port R, on C's own and on who was given R.
+use Prim.Native.Nat.{ℕ}
+use mathlib.Core.Path.{_≡_, refl, sym, ap, subst, _∙_}
+use mathlib.Core.Logic.{_⊎_, inl, inr}
+use mathlib.Core.Bool.{Bool, true, false}
+use mathlib.Core.List.{List, [], _∷_, _++_, List·Memᴰ, List·Memᴰ·head, List·Memᴰ·tail}
+use native.Mathlib.Omega.{arith}
+use lib.Dec.{eqb}
+use borrow.Author.Tests.{eq-eqb}
+use Rattle.choice.specs.Choice.{pick}
+use Rattle.address.specs.declared.Address.{Address}
+use Rattle.address.specs.declared.FiveTuple.{FiveTuple}
+use Rattle.address.specs.Address.{sameFiveTuple}
+use Rattle.address.proofs.Laws.{five-tuple-refl}
+use Rattle.history.specs.Counted.{Counted, gave, kept, allowed, nothing}
+use Rattle.history.specs.Statement.{FromAllocate, FromRefresh, GoesTo}
+use Rattle.history.proofs.Tests.{clash}
+
+-- ---- Those of a list that pass a test
+unfoldable pub only : {A : Type 0} → (A → Bool) → List A → List A
+only p [] = []
+only p (x ∷ l) = pick (p x) (x ∷ only p l) (only p l)
+
+module _ {A : Type 0} (p : A → Bool) where
+  only-split : (l r : List A) (x : A) → p x ≡ true → only p (l ++ x ∷ r) ≡ only p l ++ x ∷ only p r
+  unfolding only
+  only-split [] r x e = rw e
+  only-split (y ∷ l) r x e = go (p y) (only-split l r x e)
+    where
+      go : (b : Bool) → only p (l ++ x ∷ r) ≡ only p l ++ x ∷ only p r
+          → pick b (y ∷ only p (l ++ x ∷ r)) (only p (l ++ x ∷ r)) ≡ pick b (y ∷ only p l) (only p l) ++ x ∷ only p r
+      go true q = ap (λ (z : List A). y ∷ z) q
+      go false q = q
+
+  only-in : {x : A} (l : List A) → p x ≡ true → List·Memᴰ x l → List·Memᴰ x (only p l)
+  unfolding only
+  only-in {x} (y ∷ l) e (List·Memᴰ·head q) = go (p y) refl
+    where
+      go : (b : Bool) → p y ≡ b → List·Memᴰ x (pick b (y ∷ only p l) (only p l))
+      go true f = List·Memᴰ·head q
+      go false f = clash (p y) (ap p (sym q) ∙ e) f
+  only-in {x} (y ∷ l) e (List·Memᴰ·tail m) = go (p y) (only-in l e m)
+    where
+      go : (b : Bool) → List·Memᴰ x (only p l) → List·Memᴰ x (pick b (y ∷ only p l) (only p l))
+      go true m = List·Memᴰ·tail m
+      go false m = m
+
+  only-out : {x : A} (l : List A) → List·Memᴰ x (only p l) → List·Memᴰ x l
+  unfolding only
+  only-out [] m = m
+  only-out {x} (y ∷ l) m = go (p y) m (only-out l)
+    where
+      go : (b : Bool) → List·Memᴰ x (pick b (y ∷ only p l) (only p l)) → (List·Memᴰ x (only p l) → List·Memᴰ x l) → List·Memᴰ x (y ∷ l)
+      go true (List·Memᴰ·head q) ih = List·Memᴰ·head q
+      go true (List·Memᴰ·tail m) ih = List·Memᴰ·tail (ih m)
+      go false m ih = List·Memᴰ·tail (ih m)
+
+  -- where what passes is parted at x, so is the list
+  record Parted (l : List A) (x : A) (r : List A) : Type 0 where
+    before : List A
+    since : List A
+    whole : l ≡ before ++ x ∷ since
+    rest : only p since ≡ r
+
+  parted : (l b r : List A) (x : A) → only p l ≡ b ++ x ∷ r → Parted l x r
+  unfolding only
+  parted [] [] r x e = let z : _≡_ {A = ℕ} 0 1 = cc in let y : ⊥ = omega arith in absurd y
+  parted [] (z ∷ b) r x e = let z : _≡_ {A = ℕ} 0 1 = cc in let y : ⊥ = omega arith in absurd y
+  parted (y ∷ l) b r x e = go (p y) b e (parted l)
+    where
+      further : Parted l x r → Parted (y ∷ l) x r
+      further w = record { before = y ∷ w .before; since = w .since; whole = ap (λ (z : List A). y ∷ z) (w .whole); rest = w .rest }
+
+      go : (c : Bool) (b : List A) → pick c (y ∷ only p l) (only p l) ≡ b ++ x ∷ r → ((b r : List A) (x : A) → only p l ≡ b ++ x ∷ r → Parted l x r) → Parted (y ∷ l) x r
+      go false b e ih = further (ih b r x e)
+      go true [] e ih = let q : y ≡ x = cc in record { before = []; since = l; whole = ap (λ (z : A). z ∷ l) q; rest = cc }
+      go true (z ∷ b) e ih = further (ih b r x (cc))
+
+-- ---- The events that concern C at R
+abbrev pub concerns : FiveTuple → ℕ → Counted → Bool
+concerns C R (gave D P s n) = pick (sameFiveTuple D C) true (eqb P R)
+concerns C R (kept D s n) = sameFiveTuple D C
+concerns C R (allowed D xs s) = sameFiveTuple D C
+concerns C R nothing = false
+
+module _ (C : FiveTuple) (R : ℕ) where
+  abbrev pub about : List Counted → List Counted
+  about list = only (concerns C R) list
+
+  own-gift : (P s n : ℕ) → concerns C R (gave C P s n) ≡ true
+  own-gift P s n = rw (five-tuple-refl C)
+
+  gift-of : (D : FiveTuple) (s n : ℕ) → concerns C R (gave D R s n) ≡ true
+  gift-of D s n = go (sameFiveTuple D C)
+    where
+      go : (b : Bool) → pick b true (eqb R R) ≡ true
+      go true = refl
+      go false = eq-eqb R R refl
+
+  module _ {a : Address} {t : ℕ} where
+    to-own : (list : List Counted) → GoesTo list C R a t → GoesTo (about list) C R a t
+    to-own list g = record {
+      before = about (g .before);
+      since = about (g .since);
+      s = g .s;
+      n = g .n;
+      allocate = ap about (g .allocate) ∙ only-split (concerns C R) (g .before) (g .since) _ (own-gift R (g .s) (g .n));
+      latest = λ P s n m. g .latest P s n (only-out (concerns C R) (g .since) m);
+      alone = λ D s n m. g .alone D s n (only-out (concerns C R) (g .since) m);
+      lifetime = lasts (g .lifetime);
+      permission = record {
+        addresses = g .permission .addresses;
+        s = g .permission .s;
+        accepted = only-in (concerns C R) (g .since) (five-tuple-refl C) (g .permission .accepted);
+        named = g .permission .named;
+        recent = g .permission .recent;
+      };
+    }
+      where
+        lasts : FromAllocate C t (g .s) (g .n) (g .since) ⊎ FromRefresh C t (g .since)
+            → FromAllocate C t (g .s) (g .n) (about (g .since)) ⊎ FromRefresh C t (about (g .since))
+        lasts (inl o) = inl (record { none-since = λ s n m. o .none-since s n (only-out (concerns C R) (g .since) m); not-zero = o .not-zero; not-over = o .not-over })
+        lasts (inr f) =
+            inr
+            (record {
+              older = about (f .older);
+              newer = about (f .newer);
+              s = f .s;
+              n = f .n;
+              refresh = ap about (f .refresh) ∙ only-split (concerns C R) (f .older) (f .newer) _ (five-tuple-refl C);
+              last = λ s n m. f .last s n (only-out (concerns C R) (f .newer) m);
+              not-zero = f .not-zero;
+              not-over = f .not-over;
+            })
+
+    of-own : (list : List Counted) → GoesTo (about list) C R a t → GoesTo list C R a t
+    of-own list g = go (parted (concerns C R) list (g .before) (g .since) _ (g .allocate))
+      where
+        lasts : (since : List Counted) → FromAllocate C t (g .s) (g .n) (about since) ⊎ FromRefresh C t (about since)
+            → FromAllocate C t (g .s) (g .n) since ⊎ FromRefresh C t since
+        lasts since (inl o) =
+            inl
+            (record {
+              none-since = λ s n m. o .none-since s n (only-in (concerns C R) since (five-tuple-refl C) m);
+              not-zero = o .not-zero;
+              not-over = o .not-over;
+            })
+        lasts since (inr f) =
+            let w = parted (concerns C R) since (f .older) (f .newer) (kept C (f .s) (f .n)) (f .refresh) in
+            inr
+            (record {
+              older = w .before;
+              newer = w .since;
+              s = f .s;
+              n = f .n;
+              refresh = w .whole;
+              last = λ s n m. f .last s n (subst (List·Memᴰ (kept C s n)) (w .rest) (only-in (concerns C R) (w .since) (five-tuple-refl C) m));
+              not-zero = f .not-zero;
+              not-over = f .not-over;
+            })
+
+        go : Parted (concerns C R) list (gave C R (g .s) (g .n)) (g .since) → GoesTo list C R a t
+        go w = record {
+          before = w .before;
+          since = w .since;
+          s = g .s;
+          n = g .n;
+          allocate = w .whole;
+          latest = λ P s n m. g .latest P s n (subst (List·Memᴰ (gave C P s n)) (w .rest) (only-in (concerns C R) (w .since) (own-gift P s n) m));
+          alone = λ D s n m. g .alone D s n (subst (List·Memᴰ (gave D R s n)) (w .rest) (only-in (concerns C R) (w .since) (gift-of D s n) m));
+          lifetime = lasts (w .since) (rw (← w .rest) at (g .lifetime));
+          permission = record {
+            addresses = g .permission .addresses;
+            s = g .permission .s;
+            accepted = only-out (concerns C R) (w .since) (rw (← w .rest) at (g .permission .accepted));
+            named = g .permission .named;
+            recent = g .permission .recent;
+          };
+        }
+
+    -- two lists that agree on them agree on whether the datagram goes to C
+    pub goes-alike : (list others : List Counted) → about list ≡ about others → GoesTo list C R a t → GoesTo others C R a t
+    goes-alike list others e g = of-own others (subst (λ (l : List Counted). GoesTo l C R a t) e (to-own list g))
