@@ -375,7 +375,7 @@ unfolding decimal
 decimal-wrote n {size} {d} {l} e w = subst (λ (k : ℕ). Wrote (digitsOf 10 k n) d l) (e ∙ length-decimal n) w
 
 -- two digits more
-length-hex-bytes : (v : List ℕ) → length (hexBytes v) ≡ 2 * length v
+pub length-hex-bytes : (v : List ℕ) → length (hexBytes v) ≡ 2 * length v
 unfolding hexBytes
 length-hex-bytes [] = refl
 length-hex-bytes (b ∷ v) = rw (length-append, length-digits 16 2 b, length-hex-bytes v) (omega arith)

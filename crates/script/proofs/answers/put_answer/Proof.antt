@@ -1,0 +1,54 @@
+use mathlib.Core.Path.{refl}
+use Rattle.script.specs.Answers.{line, sentTo, answerOf}
+use Rattle.script.proofs.Written.{sent-then}
+use borrow.Author.Needs.{needs}
+use Rattle.script.proofs.answers.put_answer.Statement.{statement}
+use Rattle.script.proofs.answers.put_answer.Tie as tie
+
+returns : tie.Need-returns
+unfolding line sentTo answerOf
+returns c = rw (c .before .before .before .before .before .before .before .before .before .outcome .given .1) (sent-then (record { wrote = c .before .before .before .before .before .before .put-letter .ensures; size = refl }) (c .before .before .put-number .ensures .0))
+
+returns-2 : tie.Need-returns-2
+unfolding line sentTo answerOf
+returns-2 c = rw (c .before .before .before .before .enum-told .given .1) (record { wrote = c .before .before .put-letter2 .ensures; size = refl })
+
+returns-3 : tie.Need-returns-3
+unfolding line sentTo answerOf
+returns-3 c = rw (c .before .before .before .before .before .before .before .before .before .before .outcome2 .given .1) (sent-then (record { wrote = c .before .before .before .before .before .before .put-letter3 .ensures; size = refl }) (c .before .before .put-sent .ensures .0))
+
+returns-4 : tie.Need-returns-4
+unfolding answerOf
+returns-4 c = rw (c .before .before .before .before .before .outcome3 .given .1) (c .before .before .put-to-peer .ensures)
+
+pub put-answer-spec : {M : Type 1} → statement M
+put-answer-spec =
+    tie.close
+    (tie.spec
+    (λ c. search needs)
+    (λ c. search needs)
+    (λ c. search needs)
+    (λ c. search needs)
+    (λ c. search needs)
+    (λ c. search needs)
+    (λ c. search needs)
+    (λ c. search needs)
+    (λ c. search needs)
+    (λ c. search needs)
+    (λ c. search needs)
+    (λ c. search needs)
+    (λ c. search needs)
+    (λ c. search needs)
+    (λ c. search needs)
+    (λ c. search needs)
+    (λ c. search needs)
+    (λ c. search needs)
+    (λ c. search needs)
+    (λ c. search needs)
+    returns
+    (λ c. search needs)
+    returns-2
+    (λ c. search needs)
+    returns-3
+    (λ c. search needs)
+    returns-4)

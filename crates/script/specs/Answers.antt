@@ -1,0 +1,36 @@
+-- The lines that the call program writes: 'Each line gives `R` number, `D`, `S` client address, port, hex, or `F` relay port, peer address,
+-- port, hex; `E` where a line isn't of these forms'.
+use Prim.Native.Nat.{ℕ}
+use mathlib.Core.List.{List, [], _∷_, _++_}
+use Rattle.address.specs.declared.Address.{Address}
+use Rattle.address.specs.declared.Address.the-variants.{V4, V6}
+use Rattle.address.specs.declared.Peer.{Peer}
+use Rattle.rules.specs.declared.answer.Outcome.{Outcome}
+use Rattle.rules.specs.declared.answer.Outcome.the-variants.{Refused, Dropped, ToClient, ToPeer}
+use Rattle.text.specs.Text.{decimal, hexWord, hexBytes}
+
+-- 'Tabs part the fields, each line ends in a newline'
+unfoldable pub line : List (List ℕ) → List ℕ
+line [] = 10 ∷ []
+line (field ∷ []) = field ++ 10 ∷ []
+line (field ∷ next ∷ fields) = field ++ 9 ∷ line (next ∷ fields)
+
+-- 'addresses are 8 or 32 lower hex digits'
+unfoldable pub addressText : Address → List ℕ
+addressText (V4 a) = hexWord a
+addressText (V6 a b c d) = hexWord a ++ hexWord b ++ hexWord c ++ hexWord d
+
+-- address, port, hex: what goes to a client or a peer
+unfoldable pub sentTo : Peer → List ℕ → List (List ℕ)
+sentTo peer sent = addressText (peer .address) ∷ decimal (peer .port) ∷ hexBytes sent ∷ []
+
+-- the line of an outcome that sends these bytes
+unfoldable pub answerOf : Outcome → List ℕ → List ℕ
+answerOf (Refused number) sent = line ((82 ∷ []) ∷ decimal number ∷ [])
+answerOf Dropped sent = line ((68 ∷ []) ∷ [])
+answerOf (ToClient fiveTuple len) sent = line ((83 ∷ []) ∷ sentTo (fiveTuple .client) sent)
+answerOf (ToPeer port peer start len) sent = line ((70 ∷ []) ∷ decimal port ∷ sentTo peer sent)
+
+-- the line of a line of another form
+unfoldable pub badAnswer : List ℕ
+badAnswer = line ((69 ∷ []) ∷ [])

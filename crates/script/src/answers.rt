@@ -1,0 +1,138 @@
+// The lines that the call program writes. Each writer says its exact bytes (specs/Answers.antt) and how many, and leaves the rest of the
+// output as it was.
+use address::Address;
+use address::Peer;
+use rules::answer::Outcome;
+use text::put_decimal;
+use text::put_hex_bytes;
+use text::put_hex_word;
+use wire::put_u8;
+ghost use mathlib.Core.Path.{_≡_};
+ghost use mathlib.Core.List.{[], _∷_, _++_};
+ghost use Prim.Native.Nat.{_≤_};
+ghost use lib.ListN.{length};
+ghost use Rattle.address.specs.declared.Address.the-variants.{V6};
+ghost use Rattle.wire.specs.Wire.{Wrote};
+ghost use Rattle.messages.specs.Messages.{Sent};
+ghost use Rattle.text.specs.Text.{decimal, hexBytes};
+ghost use Rattle.script.specs.Answers.{line, addressText, sentTo, answerOf, badAnswer};
+
+const TAB: u8 = 9;
+
+const NEWLINE: u8 = 10;
+
+// The letter that a line begins with, and the byte after it.
+fn put_letter(out: &mut [u8], letter: u8, end: u8)
+    requires { ⌜ 2 ≤ length (now out) ⌝ }
+    ensures { λ _. ⌜ Wrote (letter ∷ end ∷ []) (now (out .entry)) (now (out .exit)) ⌝ }
+{
+    out[0] = letter;
+    out[1] = end;
+}
+
+// A number, and the byte after it.
+fn put_number(out: &mut [u8], n: u64, end: u8) -> usize
+    requires { ⌜ 21 ≤ length (now out) ⌝ }
+    ensures { λ r. ⌜ (Sent (decimal n ++ end ∷ []) (now (out .entry)) (now (out .exit)) r) × (r ≤ 21) ⌝ }
+{
+    let size = put_decimal(out, n);
+    out[size] = end;
+    size + 1
+}
+
+fn put_v6(out: &mut [u8], a: u32, b: u32, c: u32, d: u32)
+    requires { ⌜ 32 ≤ length (now out) ⌝ }
+    ensures { λ _. ⌜ Wrote (addressText (V6 a b c d)) (now (out .entry)) (now (out .exit)) ⌝ }
+{
+    put_hex_word(out, a);
+    put_hex_word(&mut out[8..], b);
+    put_hex_word(&mut out[16..], c);
+    put_hex_word(&mut out[24..], d);
+}
+
+// An address, and a tab.
+fn put_address(out: &mut [u8], address: Address) -> usize
+    requires { ⌜ 33 ≤ length (now out) ⌝ }
+    ensures { λ r. ⌜ (Sent (addressText address ++ 9 ∷ []) (now (out .entry)) (now (out .exit)) r) × (r ≤ 33) ⌝ }
+{
+    match address {
+        Address::V4(a) => {
+            put_hex_word(out, a);
+            out[8] = TAB;
+            9
+        }
+        Address::V6(a, b, c, d) => {
+            put_v6(out, a, b, c, d);
+            out[32] = TAB;
+            33
+        }
+    }
+}
+
+// Bytes in hex, and the end of the line.
+fn put_hex(out: &mut [u8], sent: &[u8]) -> usize
+    requires { ⌜ (length (now sent) ≤ 1536) × (3073 ≤ length (now out)) ⌝ }
+    ensures { λ r. ⌜ (Sent (hexBytes (now (sent .entry)) ++ 10 ∷ []) (now (out .entry)) (now (out .exit)) r) × (r ≤ 3073) ⌝ }
+{
+    put_hex_bytes(out, sent);
+    let end = 2 * sent.len();
+    out[end] = NEWLINE;
+    end + 1
+}
+
+// The rest of a line, from the address to which the bytes go.
+fn put_sent(out: &mut [u8], peer: Peer, sent: &[u8]) -> usize
+    requires { ⌜ (length (now sent) ≤ 1536) × (4000 ≤ length (now out)) ⌝ }
+    ensures { λ r. ⌜ (Sent (line (sentTo peer (now (sent .entry)))) (now (out .entry)) (now (out .exit)) r) × (r ≤ 4000) ⌝ }
+{
+    let address = peer.address;
+    let port_at = put_address(out, address);
+    let hex_at = port_at + put_number(&mut out[port_at..], peer.port as u64, TAB);
+    hex_at + put_hex(&mut out[hex_at..], sent)
+}
+
+fn put_to_peer(out: &mut [u8], port: u16, peer: Peer, sent: &[u8]) -> usize
+    requires { ⌜ (length (now sent) ≤ 1536) × (4096 ≤ length (now out)) ⌝ }
+    ensures { λ r. ⌜ Sent (line ((70 ∷ []) ∷ decimal port ∷ sentTo peer (now (sent .entry)))) (now (out .entry)) (now (out .exit)) r ⌝ }
+{
+    put_letter(out, 70, TAB);
+    let peer_at = 2 + put_number(&mut out[2..], port as u64, TAB);
+    peer_at + put_sent(&mut out[peer_at..], peer, sent)
+}
+
+// The line of an outcome that sends these bytes; how many bytes it has.
+pub fn put_answer(output: &mut [u8], outcome: Outcome, sent: &[u8]) -> usize
+    requires { ⌜ (length (now sent) ≤ 1536) × (4096 ≤ length (now output)) ⌝ }
+    ensures { λ r. ⌜ Sent (answerOf outcome (now (sent .entry))) (now (output .entry)) (now (output .exit)) r ⌝ }
+{
+    match outcome {
+        Outcome::Refused(number) => {
+            put_letter(output, 82, TAB);
+            2 + put_number(&mut output[2..], number as u64, NEWLINE)
+        }
+        Outcome::Dropped => {
+            put_letter(output, 68, NEWLINE);
+            2
+        }
+        Outcome::ToClient { five_tuple, len: _ } => {
+            let client = five_tuple.client;
+            put_letter(output, 83, TAB);
+            2 + put_sent(&mut output[2..], client, sent)
+        }
+        Outcome::ToPeer {
+            port,
+            peer,
+            start: _,
+            len: _,
+        } => put_to_peer(output, port, peer, sent),
+    }
+}
+
+// The line of a line of another form.
+pub fn put_bad(output: &mut [u8]) -> usize
+    requires { ⌜ 4096 ≤ length (now output) ⌝ }
+    ensures { λ r. ⌜ Sent badAnswer (now (output .entry)) (now (output .exit)) r ⌝ }
+{
+    put_letter(output, 69, NEWLINE);
+    2
+}
