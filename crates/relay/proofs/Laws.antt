@@ -17,8 +17,10 @@ use Rattle.address.specs.declared.FiveTuple.{FiveTuple}
 use Rattle.table.specs.declared.Slot.{Slot}
 use Rattle.table.specs.declared.Found.{Found}
 use Rattle.table.specs.declared.Found.the-variants.{At, Nothing}
+use Rattle.table.specs.HeldPorts.{heldIn}
 use Rattle.table.specs.Search.{further, find, has}
 use Rattle.table.specs.Table.{freshSlot, holdsPort}
+use Rattle.table.proofs.Bits as Bits
 use Rattle.slots.specs.Slots.{slotAt, inSlot, keyed, searched, lapsed, Surveyed}
 use Rattle.slots.specs.declared.keys.Key.{Key}
 use Rattle.slots.specs.declared.surveys.Survey.{Survey}
@@ -119,13 +121,14 @@ held-at time slots k (suc n) (suc i) h =
     ∙ ap (λ (j : ℕ). has (find (inSlot (holdsPort time (49152 + j))) slots)) (let z : suc k + i ≡ k + suc i = omega arith in z)
 
 ports-held : {time user : ℕ} {fiveTuple : FiveTuple} {slots : List Slot} {survey : Survey} → Surveyed slots time fiveTuple user survey
-    → survey .ports ≡ portsHeld time slots 0 128
+    → heldIn (survey .ports) ≡ portsHeld time slots 0 128
 ports-held {time} {user} {fiveTuple} {slots} {survey} w =
-    ext-getD false (survey .ports) (portsHeld time slots 0 128) (w .width ∙ sym (length-held time slots 0 128))
-    (λ i h. w .ports i (rw (w .width) at h) ∙ sym (rw zero-add at (held-at time slots 0 128 i (rw (w .width) at h))))
+    let width = Bits.length-held (survey .ports) in
+    ext-getD false (heldIn (survey .ports)) (portsHeld time slots 0 128) (width ∙ sym (length-held time slots 0 128))
+    (λ i h. w .ports i (rw width at h) ∙ sym (rw zero-add at (held-at time slots 0 128 i (rw width at h))))
 
 pub surveyed : (call : FromClient) {slots : List Slot} {survey : Survey} {free : Bool} {port : ℕ} → Surveyed slots (call .time) (call .«five_tuple») (call .user) survey
-    → free ≡ has (survey .free) → port ≡ portFor (survey .ports) (call .start)
+    → free ≡ has (survey .free) → port ≡ portFor (heldIn (survey .ports)) (call .start)
     → _≡_ {A = Asked} (record { own = survey .own; held = survey .held; free = free; port = port }) (surveyOf call slots)
 surveyed call {slots} {survey} w f p =
     let q = p ∙ ap (λ (l : List Bool). portFor l (call .start)) (ports-held w) in

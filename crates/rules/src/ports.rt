@@ -1,16 +1,19 @@
 // The port of a new allocation.
+use table::ports::Ports;
+use table::ports::is_held;
 ghost use mathlib.Core.Path.{_≡_};
+ghost use Rattle.table.specs.HeldPorts.{heldIn};
 ghost use Rattle.rules.specs.Requests.{portFor};
 
 // The first port from the start on that is not held.
-pub fn port_for(held: [bool; 128], start: u32) -> u16
-    ensures { λ r. ⌜ r ≡ portFor held start ⌝ }
+pub fn port_for(held: Ports, start: u32) -> u16
+    ensures { λ r. ⌜ r ≡ portFor (heldIn held) start ⌝ }
 {
-    let from = (start % 128) as usize;
-    let mut i: usize = 0;
+    let from = (start % 128) as u64;
+    let mut i: u64 = 0;
     while i < 128 {
         let k = (from + i) % 128;
-        let taken = held[k];
+        let taken = is_held(held, k);
         if !taken {
             return 49152 + k as u16;
         }

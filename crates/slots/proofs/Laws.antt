@@ -10,11 +10,13 @@ use lib.Dec.{eqb}
 use lib.ListN.{length, getD, set, take, length-take}
 use lib.Seq.{take-suc, take-all, length-take-le, getD-set-same, getD-set-other}
 use Rattle.choice.specs.Choice.{pick, both}
+use Rattle.choice.proofs.Laws.{both-true}
 use Rattle.address.specs.declared.FiveTuple.{FiveTuple}
 use Rattle.table.specs.declared.Allocation.{Allocation}
 use Rattle.table.specs.declared.Found.{Found}
 use Rattle.table.specs.declared.Found.the-variants.{At, Nothing}
 use Rattle.table.specs.declared.Slot.{Slot}
+use Rattle.table.specs.HeldPorts.{heldIn}
 use Rattle.table.specs.Search.{further, find, has, orElse}
 use Rattle.table.specs.Table.{freshSlot, holds, holdsUser, holdsPort}
 use Rattle.slots.specs.declared.surveys.Survey.{Survey}
@@ -75,44 +77,47 @@ module _ {A : Type 0} (p : A → Bool) where
       here true most = omega arith
       here false most = omega arith
 
--- ---- one more port
-unmarked : (x live : Bool) → x ≡ pick x true (both live false)
+-- ---- one more port: p, where it is live
+pub unmarked : (x : Bool) {b : Bool} → b ≡ false → x ≡ pick x true b
+unmarked true none = refl
+unmarked false none = sym none
+
+pub not-live : (live b : Bool) → live ≡ false → both live b ≡ false
 unfolding both
-unmarked true true = refl
-unmarked true false = refl
-unmarked false true = refl
-unmarked false false = refl
+not-live live b lapsed = rw lapsed
 
-marked : (x live : Bool) → pick x true live ≡ pick x true (both live true)
+pub other-port : (live : Bool) (p q : ℕ) → (p ≡ q → ⊥) → both live (eqb p q) ≡ false
 unfolding both
-marked true live = refl
-marked false true = refl
-marked false false = refl
+other-port true p q other = ne-eqb p q other
+other-port false p q other = refl
 
-pub mark-none : (ports : List Bool) (live : Bool) {port : ℕ} (k : ℕ) → (port ≡ 49152 + k → ⊥) → getD ports k false ≡ pick (getD ports k false) true (both live (eqb port (49152 + k)))
-mark-none ports live {port} k other = rw (ne-eqb port (49152 + k) other) (unmarked (getD ports k false) live)
+module _ (ports : List Bool) {marked : List Bool} {live : Bool} {p k : ℕ} where
+  pub mark-at : marked ≡ set ports k true → live ≡ true → p ≡ 49152 + k → k < length ports
+      → (j : ℕ) → getD marked j false ≡ pick (getD ports j false) true (both live (eqb p (49152 + j)))
+  mark-at e lives at within j = rw e (by-case (eqb j k) refl)
+    where
+      held : (x : Bool) → true ≡ pick x true true
+      held true = refl
+      held false = refl
 
-pub mark-at : (ports : List Bool) (live : Bool) {x : Bool} {port k : ℕ} → x ≡ pick (getD ports k false) true live → port ≡ 49152 + k → k < length ports
-    → (j : ℕ) → getD (set ports k x) j false ≡ pick (getD ports j false) true (both live (eqb port (49152 + j)))
-mark-at ports live {x} {port} {k} e at within j = by-case (eqb j k) refl
-  where
-    by-case : (b : Bool) → eqb j k ≡ b → getD (set ports k x) j false ≡ pick (getD ports j false) true (both live (eqb port (49152 + j)))
-    by-case true t = rw (eqb-true j k t, getD-set-same, e, eq-eqb port (49152 + k) at) (marked (getD ports k false) live)
-    by-case false f = rw (getD-set-other ports k j x false (eqb-false j k f)) (mark-none ports live j (λ same. eqb-false j k f (omega arith)))
+      by-case : (b : Bool) → eqb j k ≡ b → getD (set ports k true) j false ≡ pick (getD ports j false) true (both live (eqb p (49152 + j)))
+      by-case true t = rw (eqb-true j k t, getD-set-same, both-true live (eqb p (49152 + k)) lives (eq-eqb p (49152 + k) at)) (held (getD ports k false))
+      by-case false f =
+          rw (getD-set-other ports k j true false (eqb-false j k f))
+          (unmarked (getD ports j false) (other-port live p (49152 + j) (λ same. eqb-false j k f (omega arith))))
 
 -- ---- one more slot
 pub surveyed-with : {survey more : Survey} {i time : ℕ} {fiveTuple : FiveTuple} {user : ℕ} {allocation : Allocation}
     → more .own ≡ pick (survey .own) true (holds time fiveTuple allocation)
     → more .held ≡ pick (holdsUser time user allocation) (survey .held + 1) (survey .held)
     → more .free ≡ orElse (survey .free) (pick (lapsed time allocation) (At i) Nothing)
-    → ((k : ℕ) → k < 128 → getD (more .ports) k false ≡ pick (getD (survey .ports) k false) true (holdsPort time (49152 + k) allocation))
-    → length (more .ports) ≡ 128 → SurveyedWith survey i time fiveTuple user allocation more
-surveyed-with {survey} {more} {i} {time} {fiveTuple} {user} {allocation} own held free ports width l slot here same before = record {
+    → ((k : ℕ) → k < 128 → getD (heldIn (more .ports)) k false ≡ pick (getD (heldIn (survey .ports)) k false) true (holdsPort time (49152 + k) allocation))
+    → SurveyedWith survey i time fiveTuple user allocation more
+surveyed-with {survey} {more} {i} {time} {fiveTuple} {user} {allocation} own held free ports l slot here same before = record {
   own = rw (has-more (inSlot (holds time fiveTuple)) l slot, ← before .own, same) own;
   held = rw (count-more (inSlot (holdsUser time user)) l slot, ← before .held, same) held;
   free = rw (find-more (inSlot (lapsed time)) l slot, ← before .free, same, here) free;
   ports = λ k h. rw (has-more (inSlot (holdsPort time (49152 + k))) l slot, ← before .ports k h, same) (ports k h);
-  width = width;
 }
 
 -- ---- a loop over the slots: it has surveyed the first i

@@ -9,6 +9,7 @@ use Rattle.address.specs.declared.FiveTuple.{FiveTuple}
 use Rattle.table.specs.declared.Allocation.{Allocation}
 use Rattle.table.specs.declared.Found.{Found}
 use Rattle.table.specs.declared.Slot.{Slot}
+use Rattle.table.specs.HeldPorts.{heldIn}
 use Rattle.table.specs.Search.{find, has}
 use Rattle.table.specs.Table.{freshSlot, liveAllocation, holds, holdsUser, holdsPort}
 use Rattle.slots.specs.declared.keys.Key.{Key}
@@ -50,8 +51,7 @@ pub record Surveyed (l : List Slot) (time : ℕ) (fiveTuple : FiveTuple) (user :
   -- 'the lowest such slot'
   pub free : survey .free ≡ find (inSlot (lapsed time)) l
   -- of each 'port 49152 + k', whether a 'live slot holds' it
-  pub ports : (k : ℕ) → k < 128 → getD (survey .ports) k false ≡ has (find (inSlot (holdsPort time (49152 + k))) l)
-  pub width : length (survey .ports) ≡ 128
+  pub ports : (k : ℕ) → k < 128 → getD (heldIn (survey .ports)) k false ≡ has (find (inSlot (holdsPort time (49152 + k))) l)
 
 -- it is of no slots, for whomever
 abbrev pub SurveyedNone : Survey → Type 0

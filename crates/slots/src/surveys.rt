@@ -6,12 +6,16 @@ use table::allocations::allocation_is_live;
 use table::allocations::holds;
 use table::allocations::holds_user;
 use table::or_else;
+use table::ports::Ports;
+use table::ports::no_ports;
+use table::ports::with_port;
 ghost use mathlib.Core.Path.{_≡_};
 ghost use mathlib.Core.Bool.{true, false};
 ghost use Prim.Native.Nat.{ℕ, _+_, _<_, _^_};
 ghost use lib.Dec.{eqb};
-ghost use lib.ListN.{length, getD};
+ghost use lib.ListN.{getD};
 ghost use Rattle.choice.specs.Choice.{pick, both};
+ghost use Rattle.table.specs.HeldPorts.{heldIn};
 ghost use Rattle.table.specs.declared.Found.the-variants.{At, Nothing};
 ghost use Rattle.slots.specs.Slots.{SurveyedNone, SurveyedWith};
 
@@ -22,8 +26,8 @@ pub struct Survey {
     pub held: usize,
     // The lowest slot that isn't live.
     pub free: Found,
-    // For each k, whether a live slot holds the port 49152 + k.
-    pub ports: [bool; 128],
+    // The ports that live slots hold.
+    pub ports: Ports,
 }
 
 pub fn first_survey() -> Survey
@@ -33,7 +37,7 @@ pub fn first_survey() -> Survey
         own: false,
         held: 0,
         free: Found::Nothing,
-        ports: [false; 128],
+        ports: no_ports(),
     }
 }
 
@@ -56,20 +60,21 @@ fn found_here(i: usize, here: bool) -> Found
     if here { Found::At(i) } else { Found::Nothing }
 }
 
-// The ports with this one marked where it is live, if it is one of the 128.
-fn mark(live: bool, port: u16, ports: [bool; 128]) -> [bool; 128]
-    ensures { λ r. ⌜ ((k : ℕ) → k < 128 → getD r k false ≡ pick (getD ports k false) true (both live (eqb port (49152 + k)))) ⌝ }
+// The ports with this one held too where it is live, if it is one of the 128.
+fn mark(live: bool, port: u16, ports: Ports) -> Ports
+    ensures { λ r. ⌜ ((k : ℕ) → k < 128 → getD (heldIn r) k false ≡ pick (getD (heldIn ports) k false) true (both live (eqb port (49152 + k)))) ⌝ }
 {
+    if !live {
+        return ports;
+    }
     if port < 49152 {
         return ports;
     }
-    let k = (port - 49152) as usize;
+    let k = (port - 49152) as u64;
     if 128 <= k {
         return ports;
     }
-    let mut marked = ports;
-    marked[k] = either(ports[k], live);
-    marked
+    with_port(ports, k)
 }
 
 // The survey of the slots before slot i and of it, which has this allocation.

@@ -1,2 +1,3 @@
+pub mod HeldPorts
 pub mod Search
 pub mod Table

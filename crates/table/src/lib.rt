@@ -13,6 +13,7 @@ ghost use Rattle.table.specs.Table.{live, freshPeer, freshSlot};
 pub mod allocations;
 pub mod channels;
 pub mod permissions;
+pub mod ports;
 
 // An IP address that may send to the client and be sent to, at any port.
 pub struct Permission {

@@ -1,7 +1,8 @@
 use Prim.Native.Nat.{_+_, _-_}
 use native.Mathlib.Omega.{arith}
-use mathlib.Core.Path.{ap}
+use mathlib.Core.Path.{ap, sym, _∙_}
 use borrow.Author.Tests.{not-true, not-false}
+use Rattle.table.specs.HeldPorts.{heldIn}
 use Rattle.rules.specs.Requests.{firstFree, portFor}
 use Rattle.rules.proofs.Laws.{Tried, tried-none, tried-more, tried-free, tried-all}
 use borrow.Author.Needs.{needs}
@@ -9,10 +10,10 @@ use Rattle.rules.proofs.ports.port_for.Statement.{statement}
 use Rattle.rules.proofs.ports.port_for.Tie as tie
 
 abbrev Inv-loop : tie.InvT-loop
-Inv-loop start held from i₀ i = Tried held start (firstFree 128 held start) i
+Inv-loop held start from i₀ i = Tried (heldIn held) start (firstFree 128 (heldIn held) start) i
 
 abbrev μ-loop : tie.MeasureT-loop
-μ-loop start held from i₀ i = 128 - i
+μ-loop held start from i₀ i = 128 - i
 
 loop-holds : tie.Need-loop-holds Inv-loop μ-loop
 unfolding portFor
@@ -20,11 +21,11 @@ loop-holds c = tried-none _ _
 
 returns : tie.Need-returns Inv-loop μ-loop
 unfolding portFor
-returns c = ap (_+_ 49152) (tried-free (c .before .before .loop .inv) (c .before .loop-test .taken) (omega arith) (not-true _ (c .if1 .taken)))
+returns c = ap (_+_ 49152) (tried-free (c .before .before .before .loop .inv) (c .before .before .loop-test .taken) (omega arith) (sym (c .before .is-held .ensures) ∙ not-true _ (c .if1 .taken)))
 
 loop-again : tie.Need-loop-again Inv-loop μ-loop
 unfolding portFor
-loop-again c = tried-more (c .before .before .loop .inv) (c .before .loop-test .taken) (omega arith) (not-false _ (c .if1 .left))
+loop-again c = tried-more (c .before .before .before .loop .inv) (c .before .before .loop-test .taken) (omega arith) (sym (c .before .is-held .ensures) ∙ not-false _ (c .if1 .left))
 
 returns-2 : tie.Need-returns-2 Inv-loop μ-loop
 unfolding portFor

@@ -1,4 +1,3 @@
-use native.Mathlib.Omega.{arith}
 use Rattle.table.specs.Table.{holdsPort}
 use Rattle.slots.proofs.Laws.{surveyed-with}
 use borrow.Author.Needs.{needs}
@@ -13,7 +12,6 @@ returns c =
     (rw (← c .before .before .before .before .before .holds-user .ensures) (c .before .before .before .before .counted .ensures))
     (rw (← c .before .before .before .before .before .before .before .before .allocation-is-live .ensures, ← c .before .before .before .found-here .ensures) (c .before .before .or-else .ensures))
     (λ k h. rw (← c .before .before .before .before .before .before .before .before .allocation-is-live .ensures) (c .mark .ensures k h))
-    (omega arith)
 
 pub surveyed-with-spec : {M : Type 1} → statement M
 surveyed-with-spec =
