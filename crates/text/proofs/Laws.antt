@@ -9,7 +9,7 @@ use native.Mathlib.Nat.{pow-zero, add-assoc, mul-le-mul-left, le-refl, lt-of-lt-
 use lib.Arith.{mod-mul, digits-div, digits-mod}
 use lib.Dec.{eqb, ltb, lit<, lit≤}
 use lib.ListN.{length, getD, take, drop, set, length-append, length-set}
-use lib.Seq.{take-all, take-length, getD-take, getD-drop, length-take-le, set-at, drop-cons, drop-set-lt, getD-set-same, take-suc, slice, slice-empty, slice-cons, length-slice}
+use lib.Seq.{take-all, length-take-le, set-at, drop-cons, drop-set-lt, getD-set-same, take-suc, slice, slice-empty, slice-cons, length-slice}
 use borrow.Author.Tests.{lt-ltb, le-ltb, le-leb, lt-leb, eq-eqb, ne-eqb, ltb-true, ltb-false, eqb-true}
 use borrow.Rule.Slice.PartMut.{midOf, putMid}
 use Rattle.choice.specs.Choice.{pick, both}
@@ -18,7 +18,7 @@ use Rattle.wire.specs.Wire.{Wrote}
 use Rattle.wire.proofs.Laws.{wrote-then}
 use Rattle.text.specs.declared.Parsed.{Parsed}
 use Rattle.text.specs.declared.Parsed.the-variants.{Number, Nothing}
-use Rattle.text.specs.Text.{digit, digitsOf, sizeWithin, decimalSize, decimal, hexWord, hexBytes, digitValue, numberFrom, ofSize, decimalOf, hexWordOf, isHex, hexBytesOf, ReadHex}
+use Rattle.text.specs.Text.{digit, digitsOf, sizeWithin, decimalSize, decimal, hexWord, hexBytes, digitValue, numberFrom, ofSize, decimalOf, hexWordOf, isHex, hexBytesOf, hexFront, hexInto, ReadHex}
 
 -- two numbers are in one of two orders
 either : (n m : ℕ) {P : Type 0} → (n < m → P) → (m ≤ n → P) → P
@@ -326,32 +326,11 @@ hex-end {s} {from} {to} {i} r l =
     let e : i ≡ to = omega arith in
     sym (r .is ∙ rw (e, slice-empty))
 
--- the digits of a hex text, and its bytes one by one
-hex-digit : (t : List ℕ) (i : ℕ) → isHex t ≡ true → i < length t → digitValue (getD t i 0) < 16
-unfolding isHex
-hex-digit [] i e h = omega arith
-hex-digit (a ∷ []) i e h = absurd (false≢true e)
-hex-digit (a ∷ b ∷ t) zero e h = ltb-true _ _ (both-parts (ltb (digitValue a) 16) (both (ltb (digitValue b) 16) (isHex t)) e .0)
-hex-digit (a ∷ b ∷ t) (suc zero) e h =
-    ltb-true _ _ (both-parts (ltb (digitValue b) 16) (isHex t) (both-parts (ltb (digitValue a) 16) (both (ltb (digitValue b) 16) (isHex t)) e .1) .0)
-hex-digit (a ∷ b ∷ t) (suc (suc i)) e h =
-    hex-digit t i (both-parts (ltb (digitValue b) 16) (isHex t) (both-parts (ltb (digitValue a) 16) (both (ltb (digitValue b) 16) (isHex t)) e .1) .1) (omega arith)
-
 length-hex : (t : List ℕ) → length (hexBytesOf t) ≡ length t / 2
 unfolding hexBytesOf
 length-hex [] = refl
 length-hex (a ∷ []) = refl
 length-hex (a ∷ b ∷ t) = rw (length-hex t) (omega arith)
-
-hex-byte : (t : List ℕ) (k : ℕ) → 2 * k + 1 < length t → getD (hexBytesOf t) k 0 ≡ digitValue (getD t (2 * k) 0) * 16 + digitValue (getD t (2 * k + 1) 0)
-unfolding hexBytesOf
-hex-byte [] k h = omega arith
-hex-byte (a ∷ []) k h = omega arith
-hex-byte (a ∷ b ∷ t) zero h = refl
-hex-byte (a ∷ b ∷ t) (suc k) h =
-    let e : 2 * suc k ≡ suc (suc (2 * k)) = omega arith in
-    let f : 2 * suc k + 1 ≡ suc (suc (2 * k + 1)) = omega arith in
-    rw (f, e) (hex-byte t k (omega arith))
 
 -- a text that is read, as its definition says it
 pub of-size-yes : {o : Parsed} {n r size : ℕ} → o ≡ Number n → r ≡ length (decimal n) → r ≡ size → Number n ≡ ofSize size o
@@ -406,47 +385,92 @@ hexing-next {v} {d} {l} {y} {i} {b} r h e w =
 pub hexing-end : {v d l : List ℕ} {i : ℕ} → Hexing v d l i → length v ≤ i → Wrote (hexBytes v) d l
 hexing-end {v} {d} {l} {i} r h = rw (take-all i v h) at (r .is)
 
--- of the bytes of a hex text, from `from` to `to`, the first k are read
-pub record Filling (s : List ℕ) (from to : ℕ) (d l : List ℕ) (k : ℕ) : Type 0 where
-  pub within : k ≤ (to - from) / 2
-  pub hex : isHex (slice from to s) ≡ true
-  pub long : length l ≡ length d
-  pub is : l ≡ take k (hexBytesOf (slice from to s)) ++ drop k d
+-- a buffer that a hex text was read into
+hex-front : (t : List ℕ) → isHex t ≡ true → hexFront t ≡ hexBytesOf t
+unfolding isHex hexFront hexBytesOf both
+hex-front [] t = refl
+hex-front (c ∷ []) t = absurd (false≢true t)
+hex-front (c ∷ e ∷ l) t =
+    let v = digitValue c in
+    let w = digitValue e in
+    let ts = both-parts (ltb v 16) (both (ltb w 16) (isHex l)) t in
+    let us = both-parts (ltb w 16) (isHex l) (ts .1) in
+    rw (ts .0, us .0) (ap (λ (r : List ℕ). (v * 16 + w) ∷ r) (hex-front l (us .1)))
 
-slice-at : (s : List ℕ) (from to i : ℕ) → from + i < to → getD (slice from to s) i 0 ≡ getD s (from + i) 0
-slice-at s from to i k = rw (getD-drop, getD-take to s (from + i) 0 k)
+pub hex-into : (t before : List ℕ) → isHex t ≡ true → hexInto t before ≡ hexBytesOf t ++ drop (length (hexBytesOf t)) before
+unfolding hexInto
+hex-into t before hex = rw (hex-front t hex)
+
+-- of a text from `from` to `to` the first k pairs are digits, and their bytes are read
+pub record Filling (s : List ℕ) (from to : ℕ) (d l : List ℕ) (k : ℕ) : Type 0 where
+  pub tested : Testing s from to (from + 2 * k)
+  pub read : List ℕ
+  pub count : length read ≡ k
+  pub front : hexFront (slice from to s) ≡ read ++ hexFront (slice (from + 2 * k) to s)
+  pub long : length l ≡ length d
+  pub is : l ≡ read ++ drop k d
+
+pub filling-start : (s : List ℕ) (from to : ℕ) (d : List ℕ) → from ≤ to → Filling s from to d d 0
+filling-start s from to d h =
+    let e : from + 2 * 0 ≡ from = omega arith in
+    record { tested = record { within = omega arith; is = rw e }; read = []; count = refl; front = rw e; long = refl; is = refl }
+
+front-step : (s : List ℕ) (i to : ℕ) → i + 2 ≤ to → to ≤ length s → hexFront (slice i to s)
+    ≡ pick (both (ltb (digitValue (getD s i 0)) 16) (ltb (digitValue (getD s (i + 1) 0)) 16))
+    ((digitValue (getD s i 0) * 16 + digitValue (getD s (i + 1) 0)) ∷ hexFront (slice (i + 2) to s)) []
+unfolding hexFront
+front-step s i to k h =
+    let e : suc (i + 1) ≡ i + 2 = omega arith in
+    rw (slice-cons i to s 0 (omega arith) h, ← add-one i, slice-cons (i + 1) to s 0 (omega arith) h, e)
 
 module _ {s : List ℕ} {from to : ℕ} {d l : List ℕ} {k : ℕ} (r : Filling s from to d l k) (h : to ≤ length s) where
-  pub hex-below : {n i : ℕ} → from ≤ i → i < to → n ≡ digitValue (getD s i 0) → n < 16
-  hex-below {n} {i} a b v =
-      let e : from + (i - from) ≡ i = omega arith in
-      let f : getD (slice from to s) (i - from) 0 ≡ getD s i 0 = rw e at (slice-at s from to (i - from) (omega arith)) in
-      rw (v, ← f) (hex-digit (slice from to s) (i - from) (r .hex) (rw (length-slice from to s h) (omega arith)))
+  stopped : hexFront (slice (from + 2 * k) to s) ≡ [] → l ≡ hexInto (slice from to s) d
+  unfolding hexInto
+  stopped none =
+      let e : hexFront (slice from to s) ≡ r .read = r .front ∙ rw (none, append-nil) in
+      rw (e, r .count) (r .is)
 
-  pub filling-next : {x y : ℕ} → k < (to - from) / 2 → to ≤ from + 2 * length d
-      → x ≡ digitValue (getD s (from + 2 * k) 0) → y ≡ digitValue (getD s (from + 2 * k + 1) 0)
-      → Filling s from to d (set l k (x * 16 + y)) (k + 1)
-  filling-next {x} {y} a b u v =
-      let t = slice from to s in
-      let g : length t ≡ to - from = length-slice from to s h in
-      let n : length (hexBytesOf t) ≡ (to - from) / 2 = length-hex t ∙ ap (λ (m : ℕ). m / 2) g in
-      let j : from + (2 * k + 1) ≡ from + 2 * k + 1 = omega arith in
-      let e : x * 16 + y ≡ getD (hexBytesOf t) k 0 =
-      rw (hex-byte t k (rw g (omega arith)), slice-at s from to (2 * k) (omega arith), slice-at s from to (2 * k + 1) (omega arith), j, u, v) in
-      let f : length (take k (hexBytesOf t)) ≡ k = length-take-le k (hexBytesOf t) (omega arith) in
-      record {
-        within = omega arith;
-        hex = r .hex;
-        long = simp length-set (r .long);
-        is = rw (r .is, drop-cons d k 0 (omega arith), set-at (take k (hexBytesOf t)) (getD d k 0) (drop (suc k) d) (x * 16 + y) k f, e, add-one, take-suc (hexBytesOf t) k 0 (omega arith), append-assoc);
-      }
+  refused : false ≡ isHex (slice from to s) → hexFront (slice (from + 2 * k) to s) ≡ [] → ReadHex (slice from to s) d l Nothing
+  refused bad none = record { answer = rw (← bad); is = stopped none }
 
-  pub filling-end : (to - from) / 2 ≤ k → ReadHex (slice from to s) d l (Number ((to - from) / 2))
-  filling-end a =
-      let t = slice from to s in
-      let n : length (hexBytesOf t) ≡ (to - from) / 2 = length-hex t ∙ ap (λ (m : ℕ). m / 2) (length-slice from to s h) in
-      let e : k ≡ length (hexBytesOf t) = omega (arith, r .within) in
-      record { answer = rw (r .hex, n); is = rw (r .hex) (r .is ∙ rw (e, take-length)) }
+  module _ {x : ℕ} (a : k < (to - from) / 2) (u : x ≡ digitValue (getD s (from + 2 * k) 0)) where
+    pub filling-first : 16 ≤ x → ReadHex (slice from to s) d l Nothing
+    unfolding both
+    filling-first b =
+        refused (hex-first (r .tested) (omega arith) h (omega arith) u b)
+        (front-step s (from + 2 * k) to (omega arith) h ∙ rw (← u, le-ltb x 16 b))
 
-pub hex-none : {t d : List ℕ} → isHex t ≡ false → ReadHex t d d Nothing
-hex-none e = record { answer = rw e; is = rw e }
+    module _ {y : ℕ} (b : x < 16) (v : y ≡ digitValue (getD s (from + 2 * k + 1) 0)) where
+      pub filling-second : 16 ≤ y → ReadHex (slice from to s) d l Nothing
+      unfolding both
+      filling-second c =
+          refused (hex-second (r .tested) (omega arith) h (omega arith) u b v c)
+          (front-step s (from + 2 * k) to (omega arith) h ∙ rw (← u, ← v, lt-ltb x 16 b, le-ltb y 16 c))
+
+      pub filling-next : y < 16 → to ≤ from + 2 * length d → Filling s from to d (set l k (x * 16 + y)) (k + 1)
+      unfolding both
+      filling-next c room =
+          let e : from + 2 * (k + 1) ≡ from + 2 * k + 2 = omega arith in
+          record {
+            tested = rw e (hex-next (r .tested) (omega arith) h (omega arith) u b v c);
+            read = r .read ++ (x * 16 + y) ∷ [];
+            count = rw (length-append, r .count) (omega arith);
+            front = r .front ∙ rw (front-step s (from + 2 * k) to (omega arith) h, ← u, ← v, lt-ltb x 16 b, lt-ltb y 16 c, e, append-assoc);
+            long = simp length-set (r .long);
+            is = rw (r .is, drop-cons d k 0 (omega arith), set-at (r .read) (getD d k 0) (drop (suc k) d) (x * 16 + y) k (r .count), add-one, append-assoc);
+          }
+
+  module _ (a : (to - from) / 2 ≤ k) where
+    pub filling-odd : 2 * ((to - from) / 2) < to - from → ReadHex (slice from to s) d l Nothing
+    unfolding hexFront
+    filling-odd o =
+        let e : suc (from + 2 * k) ≡ to = omega (arith, r .tested .within) in
+        refused (hex-odd (r .tested) (omega arith) h (omega arith)) (rw (slice-cons (from + 2 * k) to s 0 (omega arith) h, e, slice-empty))
+
+    pub filling-end : to - from ≤ 2 * ((to - from) / 2) → ReadHex (slice from to s) d l (Number ((to - from) / 2))
+    unfolding hexFront
+    filling-end whole =
+        let t = slice from to s in
+        let n : length (hexBytesOf t) ≡ (to - from) / 2 = length-hex t ∙ ap (λ (m : ℕ). m / 2) (length-slice from to s h) in
+        let e : from + 2 * k ≡ to = omega (arith, r .tested .within) in
+        record { answer = rw (← hex-end (r .tested) (omega arith), n); is = stopped (rw (e, slice-empty)) }

@@ -76,7 +76,17 @@ hexBytesOf [] = []
 hexBytesOf (c ∷ []) = []
 hexBytesOf (c ∷ e ∷ l) = (digitValue c * 16 + digitValue e) ∷ hexBytesOf l
 
--- the bytes of a hex text were read into a buffer: its bytes at the front and their number, or nothing and the buffer as it was
+-- the bytes of a text's pairs of digits, up to the first pair that is none
+unfoldable pub hexFront : List ℕ → List ℕ
+hexFront [] = []
+hexFront (c ∷ []) = []
+hexFront (c ∷ e ∷ l) = pick (both (ltb (digitValue c) 16) (ltb (digitValue e) 16)) ((digitValue c * 16 + digitValue e) ∷ hexFront l) []
+
+-- a buffer after a text was read into it: those bytes stand at its front
+unfoldable pub hexInto : List ℕ → List ℕ → List ℕ
+hexInto text before = hexFront text ++ drop (length (hexFront text)) before
+
+-- a hex text was read into a buffer: the number of its bytes is the answer, or nothing where the text is not hex
 pub record ReadHex (text before after : List ℕ) (read : Parsed) : Type 0 where
   pub answer : read ≡ pick (isHex text) (Number (length (hexBytesOf text))) Nothing
-  pub is : after ≡ pick (isHex text) (hexBytesOf text ++ drop (length (hexBytesOf text)) before) before
+  pub is : after ≡ hexInto text before

@@ -181,20 +181,29 @@ pub fn is_hex(s: &[u8], from: usize, to: usize) -> bool
     true
 }
 
-// The bytes whose hex text is s from `from` to `to`, put at the front of out; how many they are.
+// The bytes whose hex text is s from `from` to `to`, put at the front of out; how many they are. Where the text is not hex, the bytes
+// before the first pair that is none stand there.
 pub fn read_hex_bytes(s: &[u8], from: usize, to: usize, out: &mut [u8]) -> Parsed
     requires { ⌜ (from ≤ to) × ((to ≤ length (now s)) × (to ≤ from + 2 * length (now out))) ⌝ }
     ensures { λ r. ⌜ ReadHex (slice from to (now (s .entry))) (now (out .entry)) (now (out .exit)) r ⌝ }
 {
-    if !is_hex(s, from, to) {
-        return Parsed::Nothing;
-    }
     let n = (to - from) / 2;
     let mut k: usize = 0;
     while k < n {
         let i = from + 2 * k;
-        out[k] = (digit_value(s[i]) * 16 + digit_value(s[i + 1])) as u8;
+        let high = digit_value(s[i]);
+        if 16 <= high {
+            return Parsed::Nothing;
+        }
+        let low = digit_value(s[i + 1]);
+        if 16 <= low {
+            return Parsed::Nothing;
+        }
+        out[k] = (high * 16 + low) as u8;
         k += 1;
+    }
+    if 2 * n < to - from {
+        return Parsed::Nothing;
     }
     Parsed::Number(n as u64)
 }
