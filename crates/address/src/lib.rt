@@ -46,18 +46,21 @@ pub fn same_address(a: Address, b: Address) -> bool
 pub fn same_peer(a: Peer, b: Peer) -> bool
     ensures { λ r. ⌜ r ≡ samePeer a b ⌝ }
 {
+    if a.port != b.port {
+        return false;
+    }
     let x = a.address;
     let y = b.address;
-    both(same_address(x, y), a.port == b.port)
+    same_address(x, y)
 }
 
 pub fn same_five_tuple(a: FiveTuple, b: FiveTuple) -> bool
     ensures { λ r. ⌜ r ≡ sameFiveTuple a b ⌝ }
 {
-    both(
-        same_peer(a.client, b.client),
-        both(same_peer(a.server, b.server), a.protocol == b.protocol),
-    )
+    if !same_peer(a.client, b.client) {
+        return false;
+    }
+    both(same_peer(a.server, b.server), a.protocol == b.protocol)
 }
 
 pub fn same_transaction_id(a: TransactionId, b: TransactionId) -> bool

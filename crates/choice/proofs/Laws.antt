@@ -16,6 +16,16 @@ unfolding both
 both-true true b p q = q
 both-true false b p q = p
 
+pub both-no : (a : Bool) → both a false ≡ false
+unfolding both
+both-no true = refl
+both-no false = refl
+
+pub both-yes : (a : Bool) → both a true ≡ a
+unfolding both
+both-yes true = refl
+both-yes false = refl
+
 -- what `_` knows after arms of one number each: a tuple nested to the left
 abbrev pub NoneAfter : {X : Type 0} → Type 0 → ℕ → List (ℕ × X) → Type 0
 NoneAfter R n [] = R

@@ -10,7 +10,7 @@ use lib.Dec.{eqb}
 use lib.ListN.{length, getD, set, take, length-take}
 use lib.Seq.{take-suc, take-all, length-take-le, getD-set-same, getD-set-other}
 use Rattle.choice.specs.Choice.{pick, both}
-use Rattle.choice.proofs.Laws.{both-true}
+use Rattle.choice.proofs.Laws.{both-true, both-no}
 use Rattle.address.specs.declared.FiveTuple.{FiveTuple}
 use Rattle.table.specs.declared.Allocation.{Allocation}
 use Rattle.table.specs.declared.Found.{Found}
@@ -87,9 +87,7 @@ unfolding both
 not-live live b lapsed = rw lapsed
 
 pub other-port : (live : Bool) (p q : ℕ) → (p ≡ q → ⊥) → both live (eqb p q) ≡ false
-unfolding both
-other-port true p q other = ne-eqb p q other
-other-port false p q other = refl
+other-port live p q other = rw (ne-eqb p q other) (both-no live)
 
 module _ (ports : List Bool) {marked : List Bool} {live : Bool} {p k : ℕ} where
   pub mark-at : marked ≡ set ports k true → live ≡ true → p ≡ 49152 + k → k < length ports

@@ -60,21 +60,17 @@ fn found_here(i: usize, here: bool) -> Found
     if here { Found::At(i) } else { Found::Nothing }
 }
 
-// The ports with this one held too where it is live, if it is one of the 128.
+// The ports with this one held too where it is live, if it is one of the 128 from 49152 on, which is 384 * 128.
 fn mark(live: bool, port: u16, ports: Ports) -> Ports
     ensures { λ r. ⌜ ((k : ℕ) → k < 128 → getD (heldIn r) k false ≡ pick (getD (heldIn ports) k false) true (both live (eqb port (49152 + k)))) ⌝ }
 {
     if !live {
         return ports;
     }
-    if port < 49152 {
+    if port / 128 != 384 {
         return ports;
     }
-    let k = (port - 49152) as u64;
-    if 128 <= k {
-        return ports;
-    }
-    with_port(ports, k)
+    with_port(ports, (port % 128) as u64)
 }
 
 // The survey of the slots before slot i and of it, which has this allocation.
