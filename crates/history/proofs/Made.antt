@@ -1,6 +1,6 @@
 -- Every call's act is a change of the table that what it counts as allows.
 use Prim.Native.Nat.{ℕ, _+_, _<_, _≤_, _^_}
-use mathlib.Core.Path.{_≡_, refl, sym, _∙_, ap}
+use mathlib.Core.Path.{_≡_, refl, _∙_, ap}
 use mathlib.Core.Logic.{_≢_, _⊎_, inl, inr}
 use mathlib.Core.Bool.{Bool, true, false, not, false≢true}
 use mathlib.Core.List.{List, [], _∷_}
@@ -42,6 +42,7 @@ use Rattle.rules.specs.Requests.{allocated, allocate, renewed, refreshed, refre
 use Rattle.rules.specs.Data.{permitted, sentFrom, send, channelledFrom, channelled}
 use Rattle.rules.specs.Client.{requested, ofKind, ofClass, owned}
 use Rattle.rules.proofs.Accepted.{allocates, refreshes, permits, binds, granted-range, granted-refresh-range}
+use Rattle.rules.proofs.Written.{Requested, owned-writes}
 use Rattle.relay.specs.declared.calls.Call.{Call}
 use Rattle.relay.specs.declared.calls.Call.the-variants.{Client, Peer}
 use Rattle.relay.specs.declared.calls.FromClient.{FromClient}
@@ -263,30 +264,13 @@ channelled-keeps call s own slot = keeps _ (go (channelDataOf s))
         pick-unaccepted (not own) (pick (not (has found)) dropped out) (pick-unaccepted (not (has found)) out (to-peer-unaccepted _ _ start len))
     go Malformed = dropped-unaccepted
 
--- what writes a slot is one of the three requests, and the caller had a live slot
-pub record Requested (call : ClientCall) (s : List ℕ) (own : Bool) (was slot : Slot) (out : Out) : Type 0 where
-  pub had : own ≡ true
-  pub which : (refresh call s own was ≡ write slot out) ⊎ ((createPermission call s own was ≡ write slot out) ⊎ (channelBind call s own was ≡ write slot out))
-
 module _ (call : ClientCall) (s : List ℕ) (own : Bool) (was : Slot) where
-  never : {A : Type 0} (out o : Out) (slot : Slot) → keep out ≡ write slot o → A
-  never out o slot e = let z : _≡_ {A = ℕ} 0 1 = cc in let y : ⊥ = omega arith in absurd y
-
-  kept-keep : (change : Change) (out : Out) → change ≡ keep out → (slot : Slot) (o : Out) → change ≡ write slot o → Requested call s own was slot o
-  kept-keep change out p slot o e = never out o slot (sym p ∙ e)
-
   request-keeps : (method : Method) → Keeps (requested call s own was method)
   unfolding refresh createPermission channelBind
   request-keeps Allocate = keeps dropped dropped-unaccepted
   request-keeps Refresh = respond-keeps _ _ s _ _ _
   request-keeps CreatePermission = respond-keeps _ _ s _ _ _
   request-keeps ChannelBind = respond-keeps _ _ s _ _ _
-
-  request-writes : (method : Method) (slot : Slot) (out : Out) → requested call s own was method ≡ write slot out → Requested call s own was slot out
-  request-writes Allocate slot out e = never dropped out slot e
-  request-writes Refresh slot out e = record { had = refreshes call s slot out own was e .owner .live; which = inl e }
-  request-writes CreatePermission slot out e = record { had = permits call s slot out own was e .owner .live; which = inr (inl e) }
-  request-writes ChannelBind slot out e = record { had = binds call s slot out own was e .owner .live; which = inr (inr e) }
 
   owned-keeps : Keeps (owned call s own was)
   unfolding owned
@@ -308,27 +292,6 @@ module _ (call : ClientCall) (s : List ℕ) (own : Bool) (was : Slot) where
       go Stun = formed (wellFormed s)
       go ChannelData = channelled-keeps call s own was
       go Neither = keeps dropped dropped-unaccepted
-
-  owned-writes : (slot : Slot) (out : Out) → owned call s own was ≡ write slot out → Requested call s own was slot out
-  unfolding owned send channelled
-  owned-writes slot out e = go (sorted s) e
-    where
-      kind : (k : MessageKind) → ofKind call s own was k ≡ write slot out → Requested call s own was slot out
-      kind (Request method) e = request-writes method slot out e
-      kind (Success method) e = never dropped out slot e
-      kind (Error method) e = never dropped out slot e
-      kind SendIndication e = never _ out slot e
-      kind DataIndication e = never dropped out slot e
-      kind Other e = never dropped out slot e
-
-      formed : (b : Bool) → pick b (ofKind call s own was (messageKindOf (num s 0 2))) (keep dropped) ≡ write slot out → Requested call s own was slot out
-      formed true e = kind (messageKindOf (num s 0 2)) e
-      formed false e = never dropped out slot e
-
-      go : (c : Class) → ofClass call s own was c ≡ write slot out → Requested call s own was slot out
-      go Stun e = formed (wellFormed s) e
-      go ChannelData e = never _ out slot e
-      go Neither e = never dropped out slot e
 
 module _ (call : FromClient) (l : List Slot) (s reply : List ℕ) (full : length l ≡ 64) (fits : CallFits (Client call)) (bytes : Bytes s) where
   pub made-found : Made call l s reply full fits bytes (foundAct (Client call) l s)

@@ -27,7 +27,7 @@ use Rattle.slots.specs.declared.surveys.Survey.{Survey}
 use Rattle.rules.specs.declared.answer.Answer.{Answer}
 use Rattle.rules.specs.declared.answer.Outcome.{Outcome}
 use Rattle.rules.specs.declared.requests.Survey.{Survey as Asked}
-use Rattle.rules.specs.Act.{Change, keep, write, Answers}
+use Rattle.rules.specs.Act.{Out, Change, keep, write, Answers}
 use Rattle.rules.specs.declared.answer.Outcome.the-variants.{Refused}
 use Rattle.rules.specs.Requests.{allocate, portFor}
 use Rattle.rules.specs.Client.{allocateKind, stunClass, isAllocate}
@@ -39,11 +39,13 @@ use Rattle.relay.specs.declared.calls.FromPeer.{FromPeer}
 use Rattle.relay.specs.Sending.{part}
 use Rattle.relay.specs.Step.{clockAfter, timeOf, refusal, place, ifFound, placeOf, portsHeld, asRules, surveyOf, allocateAct, keyOf, onFound, foundAct, allocates, clientOf, act, Acted, Stepped, ReadyClient, ReadyPeer, Ready}
 
--- ---- What is decided about the slot that was found
-pub found-answers : {change : Change} {was : Slot} {before after : List ℕ} {answer r : Answer} (found : Found) → Answers change was before after answer
-    → r .outcome ≡ answer .outcome → r .slot ≡ pick (has found) (answer .slot) was → Answers (ifFound found change) was before after r
-found-answers (At k) w o s = record { outcome = o ∙ w .outcome; slot = s ∙ w .slot; reply = w .reply }
-found-answers {change} Nothing w o s = record { outcome = o ∙ w .outcome; slot = s; reply = w .reply }
+-- ---- What is decided about the slot that was found: it is written only where one was
+pub found-answers : {was : Slot} {before after : List ℕ} {answer : Answer} (found : Found) (change : Change)
+    → ((slot : Slot) (out : Out) → change ≡ write slot out → has found ≡ true)
+    → Answers change was before after answer → Answers (ifFound found change) was before after answer
+found-answers (At k) change had w = w
+found-answers Nothing (keep out) had w = w
+found-answers Nothing (write slot out) had w = absurd (false≢true (had slot out refl))
 
 -- ---- A call that is not refused
 pub ready-client : {call : Call} {client : FromClient} {datagram reply : List ℕ} → call ≡ Client client → Ready call datagram reply

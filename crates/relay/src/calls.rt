@@ -19,7 +19,6 @@ ghost use mathlib.Core.Path.{_≡_};
 ghost use mathlib.Core.List.{List};
 ghost use Prim.Native.Nat.{_≤_, _^_};
 ghost use lib.ListN.{length};
-ghost use Rattle.choice.specs.Choice.{pick};
 ghost use Rattle.table.specs.Search.{has};
 ghost use Rattle.rules.specs.Act.{Answers};
 ghost use Rattle.slots.specs.Slots.{Surveyed};
@@ -234,35 +233,19 @@ pub fn slot_of(answer: Answer) -> Slot
     answer.slot
 }
 
-// Where no slot was found, the slot that was read is written back as it was.
-fn if_found(found: Found, answer: Answer, was: Slot) -> Answer
-    ensures { λ r. ⌜ (r .outcome ≡ answer .outcome) × (r .slot ≡ pick (has found) (answer .slot) was) ⌝ }
-{
-    if has(found) {
-        return answer;
-    }
-    let outcome = answer.outcome;
-    Answer { outcome, slot: was }
-}
-
-// What a call other than Allocate does to the slot that was found.
+// What a call other than Allocate does to the slot that was found. Where none was, the slot that was read is left as it was.
 pub fn on_found(datagram: &[u8], reply: &mut [u8], call: Call, found: Found, was: Slot) -> Answer
     requires { ⌜ Ready call (now datagram) (now reply) ⌝ }
     ensures { λ r. ⌜ Answers (ifFound found (onFound call (now (datagram .entry)) (has found) was)) was (now (reply .entry)) (now (reply .exit)) r ⌝ }
 {
     match call {
-        Call::Client(c) => {
-            let answer = owned(datagram, reply, client_call(c), has(found), was);
-            if_found(found, answer, was)
-        }
-        Call::Peer(p) => {
-            let answer = from_peer(datagram, reply, p.time, p.source, p.id, has(found), was);
-            if_found(found, answer, was)
-        }
+        Call::Client(c) => owned(datagram, reply, client_call(c), has(found), was),
+        Call::Peer(p) => from_peer(datagram, reply, p.time, p.source, p.id, has(found), was),
     }
 }
 
-// What Allocate does to the slot that isn't live, with what it asks of the table.
+// What Allocate does to the slot that isn't live, with what it asks of the table. Where every slot is live, the one that was read is left
+// as it was.
 pub fn on_free(
     datagram: &[u8],
     reply: &mut [u8],
@@ -281,6 +264,5 @@ pub fn on_free(
         free: has(free),
         port: port_for(ports, call.start),
     };
-    let answer = allocate(datagram, reply, client_call(call), survey, was);
-    if_found(free, answer, was)
+    allocate(datagram, reply, client_call(call), survey, was)
 }
