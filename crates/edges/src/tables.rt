@@ -1,0 +1,139 @@
+// Tables that are made up, and what a table holds.
+use crate::calling::write_name;
+use crate::fields::address;
+use crate::fields::number;
+use crate::fields::number_u8;
+use crate::fields::number_u16;
+use crate::fields::peer;
+use crate::printing::write;
+use address::Address;
+use address::FiveTuple;
+use address::Peer;
+use listing::puts::put_slot;
+use listing::sizes::slot_size;
+use relay::Held;
+use rules::answer::Outcome;
+use table::Allocation;
+use table::Channel;
+use table::Permission;
+use table::Slot;
+use table::fresh_slot;
+
+pub fn empty() -> Held {
+    let slots = [fresh_slot(); 64];
+    let outcome = Outcome::Dropped;
+    Held {
+        slots,
+        clock: 0,
+        outcome,
+    }
+}
+
+// The table with another clock.
+pub fn at_clock(held: Held, clock: u64) -> Held {
+    let mut made = held;
+    made.clock = clock;
+    made
+}
+
+fn slot_of(held: Held, place: usize) -> Slot {
+    if place < 64 {
+        return held.slots[place];
+    }
+    fresh_slot()
+}
+
+// The table with a slot in that place; from 64 on, in every place.
+fn with(held: Held, place: usize, slot: Slot) -> Held {
+    let mut made = held;
+    if place < 64 {
+        made.slots[place] = slot;
+        return made;
+    }
+    let slots = [slot; 64];
+    made.slots = slots;
+    made
+}
+
+// `A` place, user, client address, client port, relay port, expiry.
+pub fn allocation(held: Held, line: &[u8]) -> Held {
+    let server = Peer {
+        address: Address::V4(0xcb007105),
+        port: 3478,
+    };
+    let five_tuple = FiveTuple {
+        client: peer(line, 3, 4),
+        server,
+        protocol: 17,
+    };
+    let allocation = Allocation {
+        user: number_u8(line, 2),
+        five_tuple,
+        port: number_u16(line, 5),
+        expiry: number(line, 6),
+    };
+    let fresh = fresh_slot();
+    let permissions = fresh.permissions;
+    let channels = fresh.channels;
+    let slot = Slot {
+        allocation,
+        permissions,
+        channels,
+    };
+    with(held, number(line, 1) as usize, slot)
+}
+
+// `E` place, entry, address, expiry: a permission in that entry; from 8 on, in every entry.
+pub fn permission(held: Held, line: &[u8]) -> Held {
+    let place = number(line, 1) as usize;
+    let entry = number(line, 2) as usize;
+    let address = address(line, 3);
+    let expiry = number(line, 4);
+    let permission = Permission { address, expiry };
+    let mut slot = slot_of(held, place);
+    if entry < 8 {
+        slot.permissions[entry] = permission;
+        return with(held, place, slot);
+    }
+    let permissions = [permission; 8];
+    slot.permissions = permissions;
+    with(held, place, slot)
+}
+
+// `C` place, entry, number, address, port, expiry: a channel in that entry; from 8 on, in every entry.
+pub fn channel(held: Held, line: &[u8]) -> Held {
+    let place = number(line, 1) as usize;
+    let entry = number(line, 2) as usize;
+    let peer = peer(line, 4, 5);
+    let channel = Channel {
+        number: number_u16(line, 3),
+        peer,
+        expiry: number(line, 6),
+    };
+    let mut slot = slot_of(held, place);
+    if entry < 8 {
+        slot.channels[entry] = channel;
+        return with(held, place, slot);
+    }
+    let channels = [channel; 8];
+    slot.channels = channels;
+    with(held, place, slot)
+}
+
+// A slot's lines of the listing.
+fn write_slot(clock: u64, k: usize, slot: Slot) {
+    let size = slot_size(clock, k, slot);
+    let mut output = [0u8; 5610];
+    put_slot(&mut output, 0, clock, k, slot);
+    write(&output[0..size]);
+}
+
+// `L` name: the lines of every slot, as the listing has them.
+pub fn lines(held: Held, line: &[u8]) {
+    write_name(line);
+    write(b"\n");
+    for i in 0..64 {
+        let slot = slot_of(held, i);
+        write_slot(held.clock, i, slot);
+    }
+}
