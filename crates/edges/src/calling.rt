@@ -8,6 +8,8 @@ use crate::fields::number_u16;
 use crate::fields::number_u32;
 use crate::fields::peer;
 use crate::fields::stop;
+use crate::lent::sixty_five;
+use crate::lent::sixty_three;
 use crate::printing::write;
 use crate::printing::write_number;
 use crate::printing::write_outcome;
@@ -19,11 +21,9 @@ use relay::Held;
 use relay::calls::Call;
 use relay::calls::call_of_client;
 use relay::calls::call_of_peer;
-use relay::calls::refusal;
 use relay::held_datagram;
 use rules::answer::Outcome;
-ghost use Prim.Native.Nat.{_≤_};
-ghost use lib.ListN.{length};
+use table::fresh_slot;
 
 // What the calls after a `W` line bring besides: how long the reply is, how many slots are lent, the protocol and the server's port of
 // the 5-tuple, and how long the datagram is; where that is 0, as long as its bytes.
@@ -70,10 +70,10 @@ fn is_named(line: &[u8]) -> bool {
 }
 
 // What a reply holds before a call.
-const UNTOUCHED: u8 = 0xaa;
+pub const UNTOUCHED: u8 = 0xaa;
 
 // Whether the reply is as it was from that place on.
-fn is_untouched(reply: &[u8], from: usize) -> bool {
+pub fn is_untouched(reply: &[u8], from: usize) -> bool {
     for i in from..reply.len() {
         if reply[i] != UNTOUCHED {
             return false;
@@ -106,17 +106,27 @@ fn write_case<'a>(line: &[u8], after: Held, datagram: &'a [u8], reply: &'a [u8])
     write(b"\n");
 }
 
-// The entry. A table held by value has 64 slots: for another number, what the entry is proved to answer.
+// The entry over a fresh table that has not 64 slots.
+fn over_others(clock: u64, slots: usize, call: Call, datagram: &[u8], reply: &mut [u8]) -> Outcome {
+    if slots == 63 {
+        let table = [fresh_slot(); 63];
+        return sixty_three(table, clock, call, datagram, reply);
+    }
+    let table = [fresh_slot(); 65];
+    sixty_five(table, clock, call, datagram, reply)
+}
+
+// The entry over the table, or where the setting says 63 or 65 slots, over a fresh one of so many.
 fn answered(held: Held, slots: usize, call: Call, datagram: &[u8], reply: &mut [u8]) -> Held {
     let table = held.slots;
     if slots == 64 {
         return held_datagram(table, held.clock, call, datagram, reply);
     }
-    let number = refusal(held.clock, slots, datagram.len(), reply.len(), call);
+    let outcome = over_others(held.clock, slots, call, datagram, reply);
     Held {
         slots: table,
         clock: held.clock,
-        outcome: Outcome::Refused(number),
+        outcome,
     }
 }
 

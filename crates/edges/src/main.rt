@@ -1,8 +1,25 @@
-// Every edge of document 01, run through the entries. The cases are the lines of the file `stdin`: the first letter says what a line
-// does, and a line with a name prints it with what the call gave. A call's answer is `R` a refusal, `D` a drop, `S` what goes to a
-// client, with what the clients' reader says of it, or `F` what goes to a peer; then the clock after the call.
+// Every edge of document 01, run through the entries. The cases are the lines of the file `stdin`, with tabs between their fields; the file
+// `stdout` has what each gives. A line that shows something has the case's name first, and prints it with the answer; a call without a
+// name prepares a case and prints nothing.
+//
+//     Q name, time, user, start, client address, port, bytes     a client's datagram
+//     P name, time, peer address, port, relay port, bytes        a peer's datagram
+//     W reply, slots, protocol, server port, datagram            what later calls bring: the lengths of reply and datagram (0: its bytes)
+//     N  /  T clock  /  K  /  B                                  an empty relay; its clock; keep it as it is; go back to the one kept
+//     A place, user, client address, port, relay port, expiry    an allocation put into the table; from place 64 on, in all
+//     E place, entry, address, expiry                            a permission put into a slot; from entry 8 on, in all
+//     C place, entry, number, address, port, expiry              a channel
+//     L name, length                                             the listing, in an output of that length
+//     R name, number  /  S name, length  /  F name, start, length    what a made-up outcome sends
+//     M name, bytes, length                                      what the clients' reader says (0: of the bytes alone)
+//     V  /  #                                                    RFC 5769's addresses; a heading
+//
+// A call's answer is `R` and the number of a refusal, `D` a drop, `S` what goes to a client, with what the clients' reader says of it, or
+// `F` what goes to a peer; then the clock after the call.
 mod calling;
 mod fields;
+mod lent;
+mod listings;
 mod printing;
 mod showing;
 mod tables;
@@ -20,32 +37,26 @@ struct State {
     setting: Setting,
 }
 
-// A line that makes a call or a table.
+// `Q` and `P` make a call; the other letters make a table.
 fn changed(held: Held, setting: Setting, line: &[u8]) -> Held {
-    match fields::letter(line) {
-        b'Q' => calling::from_client(held, setting, line),
-        b'P' => calling::from_peer(held, setting, line),
-        b'N' => tables::empty(),
-        b'T' => tables::at_clock(held, fields::number(line, 1)),
-        b'A' => tables::allocation(held, line),
-        b'E' => tables::permission(held, line),
-        b'C' => tables::channel(held, line),
-        _ => held,
+    let letter = fields::letter(line);
+    if letter == b'Q' {
+        return calling::from_client(held, setting, line);
     }
+    if letter == b'P' {
+        return calling::from_peer(held, setting, line);
+    }
+    tables::made(held, letter, line)
 }
 
 // A line that shows something and changes nothing.
-fn shown(held: Held, line: &[u8]) {
-    match fields::letter(line) {
-        b'L' => tables::lines(held, line),
-        b'R' => showing::refused(line),
-        b'S' => showing::to_client(line),
-        b'F' => showing::to_peer(line),
-        b'M' => showing::message(line),
-        b'V' => vectors::vectors(),
-        b'#' => printing::write_line(line),
-        _ => {}
+fn show(held: Held, slots: usize, line: &[u8]) {
+    let letter = fields::letter(line);
+    if letter == b'L' {
+        listings::show(held, slots, line);
+        return;
     }
+    showing::show(letter, line);
 }
 
 // `K` keeps the relay as it is, `B` goes back to it, `W` sets what calls bring besides.
@@ -53,34 +64,35 @@ fn after(state: State, line: &[u8]) -> State {
     let held = state.held;
     let kept = state.kept;
     let setting = state.setting;
-    match fields::letter(line) {
-        b'K' => State {
+    let letter = fields::letter(line);
+    if letter == b'K' {
+        return State {
             held,
             kept: held,
             setting,
-        },
-        b'B' => State {
+        };
+    }
+    if letter == b'B' {
+        return State {
             held: kept,
             kept,
             setting,
-        },
-        b'W' => {
-            let setting = calling::read_setting(line);
-            State {
-                held,
-                kept,
-                setting,
-            }
-        }
-        _ => {
-            shown(held, line);
-            let held = changed(held, setting, line);
-            State {
-                held,
-                kept,
-                setting,
-            }
-        }
+        };
+    }
+    if letter == b'W' {
+        let setting = calling::read_setting(line);
+        return State {
+            held,
+            kept,
+            setting,
+        };
+    }
+    show(held, setting.slots, line);
+    let held = changed(held, setting, line);
+    State {
+        held,
+        kept,
+        setting,
     }
 }
 

@@ -6,7 +6,9 @@ use crate::fields::number;
 use crate::fields::number_u8;
 use crate::printing::write;
 use crate::printing::write_data;
+use crate::printing::write_line;
 use crate::printing::write_message;
+use crate::vectors::vectors;
 use address::Address;
 use address::FiveTuple;
 use address::Peer;
@@ -27,7 +29,7 @@ fn nobody() -> Peer {
 }
 
 // `R` name, number: a refusal; 0 is a drop.
-pub fn refused(line: &[u8]) {
+fn refused(line: &[u8]) {
     let number = number_u8(line, 2);
     if number == 0 {
         write_sent(line, Outcome::Dropped);
@@ -37,7 +39,7 @@ pub fn refused(line: &[u8]) {
 }
 
 // `S` name, len.
-pub fn to_client(line: &[u8]) {
+fn to_client(line: &[u8]) {
     let five_tuple = FiveTuple {
         client: nobody(),
         server: nobody(),
@@ -48,7 +50,7 @@ pub fn to_client(line: &[u8]) {
 }
 
 // `F` name, start, len.
-pub fn to_peer(line: &[u8]) {
+fn to_peer(line: &[u8]) {
     let peer = nobody();
     let start = number(line, 2) as usize;
     let len = number(line, 3) as usize;
@@ -70,7 +72,7 @@ fn write_first(message: &[u8], len: usize) {
 }
 
 // `M` name, bytes, and how many there are in all, or 0; those that the field does not have are 7.
-pub fn message(line: &[u8]) {
+fn message(line: &[u8]) {
     let mut message = [7u8; 1600];
     let field = bytes(line, 2, &mut message);
     let all = number(line, 3) as usize;
@@ -78,4 +80,17 @@ pub fn message(line: &[u8]) {
     write(b" ");
     write_first(&message, length_of(field, all));
     write(b"\n");
+}
+
+// What a line shows that needs no table; `V` the vectors, and a heading as it stands.
+pub fn show(letter: u8, line: &[u8]) {
+    match letter {
+        b'R' => refused(line),
+        b'S' => to_client(line),
+        b'F' => to_peer(line),
+        b'M' => message(line),
+        b'V' => vectors(),
+        b'#' => write_line(line),
+        _ => {}
+    }
 }

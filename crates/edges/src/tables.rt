@@ -1,16 +1,12 @@
-// Tables that are made up, and what a table holds.
-use crate::calling::write_name;
+// Tables that are made up.
 use crate::fields::address;
 use crate::fields::number;
 use crate::fields::number_u8;
 use crate::fields::number_u16;
 use crate::fields::peer;
-use crate::printing::write;
 use address::Address;
 use address::FiveTuple;
 use address::Peer;
-use listing::puts::put_slot;
-use listing::sizes::slot_size;
 use relay::Held;
 use rules::answer::Outcome;
 use table::Allocation;
@@ -30,7 +26,7 @@ pub fn empty() -> Held {
 }
 
 // The table with another clock.
-pub fn at_clock(held: Held, clock: u64) -> Held {
+fn at_clock(held: Held, clock: u64) -> Held {
     let mut made = held;
     made.clock = clock;
     made
@@ -56,7 +52,7 @@ fn with(held: Held, place: usize, slot: Slot) -> Held {
 }
 
 // `A` place, user, client address, client port, relay port, expiry.
-pub fn allocation(held: Held, line: &[u8]) -> Held {
+fn allocation(held: Held, line: &[u8]) -> Held {
     let server = Peer {
         address: Address::V4(0xcb007105),
         port: 3478,
@@ -84,7 +80,7 @@ pub fn allocation(held: Held, line: &[u8]) -> Held {
 }
 
 // `E` place, entry, address, expiry: a permission in that entry; from 8 on, in every entry.
-pub fn permission(held: Held, line: &[u8]) -> Held {
+fn permission(held: Held, line: &[u8]) -> Held {
     let place = number(line, 1) as usize;
     let entry = number(line, 2) as usize;
     let address = address(line, 3);
@@ -101,7 +97,7 @@ pub fn permission(held: Held, line: &[u8]) -> Held {
 }
 
 // `C` place, entry, number, address, port, expiry: a channel in that entry; from 8 on, in every entry.
-pub fn channel(held: Held, line: &[u8]) -> Held {
+fn channel(held: Held, line: &[u8]) -> Held {
     let place = number(line, 1) as usize;
     let entry = number(line, 2) as usize;
     let peer = peer(line, 4, 5);
@@ -120,20 +116,14 @@ pub fn channel(held: Held, line: &[u8]) -> Held {
     with(held, place, slot)
 }
 
-// A slot's lines of the listing.
-fn write_slot(clock: u64, k: usize, slot: Slot) {
-    let size = slot_size(clock, k, slot);
-    let mut output = [0u8; 5610];
-    put_slot(&mut output, 0, clock, k, slot);
-    write(&output[0..size]);
-}
-
-// `L` name: the lines of every slot, as the listing has them.
-pub fn lines(held: Held, line: &[u8]) {
-    write_name(line);
-    write(b"\n");
-    for i in 0..64 {
-        let slot = slot_of(held, i);
-        write_slot(held.clock, i, slot);
+// The table that a line makes: `N` an empty one, `T` with that clock, `A`, `E` and `C` with an allocation, a permission, a channel.
+pub fn made(held: Held, letter: u8, line: &[u8]) -> Held {
+    match letter {
+        b'N' => empty(),
+        b'T' => at_clock(held, number(line, 1)),
+        b'A' => allocation(held, line),
+        b'E' => permission(held, line),
+        b'C' => channel(held, line),
+        _ => held,
     }
 }

@@ -1,0 +1,54 @@
+// The entries over tables that are lent as slices of records: the relay's over 63 and 65 slots, the listing's over 64 and 63. Each lends an
+// array of its own, so that its proof is a walk by hand.
+use listing::Listed;
+use listing::list;
+use relay::calls::Call;
+use relay::relay_datagram;
+use rules::answer::Outcome;
+use table::Slot;
+ghost use mathlib.Core.Path.{_≡_};
+ghost use lib.ListN.{length};
+ghost use Rattle.listing.specs.Listing.{Lists};
+ghost use Rattle.relay.specs.Step.{act, outcomeOf};
+
+pub fn sixty_three(
+    slots: [Slot; 63],
+    clock: u64,
+    call: Call,
+    datagram: &[u8],
+    reply: &mut [u8],
+) -> Outcome
+    ensures { λ r. ⌜ r ≡ outcomeOf (act clock slots call (now (datagram .entry)) (length (now (reply .entry)))) ⌝ }
+{
+    let mut table = slots;
+    let mut time = clock;
+    relay_datagram(&mut table, &mut time, call, datagram, reply)
+}
+
+pub fn sixty_five(
+    slots: [Slot; 65],
+    clock: u64,
+    call: Call,
+    datagram: &[u8],
+    reply: &mut [u8],
+) -> Outcome
+    ensures { λ r. ⌜ r ≡ outcomeOf (act clock slots call (now (datagram .entry)) (length (now (reply .entry)))) ⌝ }
+{
+    let mut table = slots;
+    let mut time = clock;
+    relay_datagram(&mut table, &mut time, call, datagram, reply)
+}
+
+pub fn list_held(slots: [Slot; 64], clock: u64, output: &mut [u8]) -> Listed
+    ensures { λ r. ⌜ Lists clock slots (now (output .entry)) (now (output .exit)) r ⌝ }
+{
+    let table = slots;
+    list(&table, clock, output)
+}
+
+pub fn list_sixty_three(slots: [Slot; 63], clock: u64, output: &mut [u8]) -> Listed
+    ensures { λ r. ⌜ Lists clock slots (now (output .entry)) (now (output .exit)) r ⌝ }
+{
+    let table = slots;
+    list(&table, clock, output)
+}
