@@ -1,7 +1,9 @@
-# make test: all checks. make run: prove, build and run the main program.
-.PHONY: test run fmt
+# make test: all checks. make run: prove, build and run the main program. make interop: real clients through the daemon.
+.PHONY: test run fmt relayd relayd-test calls interop
 
-test:
+CALLS ?= target/bin/calls
+
+test: relayd-test
 	rt fmt --check
 	rt ci
 
@@ -11,3 +13,20 @@ run:
 
 fmt:
 	rt fmt
+
+# The daemon stands outside the proof. Where there is no cargo, its tests are left out.
+relayd-test:
+	@if command -v cargo >/dev/null; then set -e; cd host/relayd; cargo build --offline --quiet; cargo test --offline --quiet; \
+	else echo "no cargo: host/relayd is not built and its tests are not run"; fi
+
+relayd:
+	cd host/relayd && cargo build --release --offline --quiet
+
+# The proved program that relayd drives.
+calls: $(CALLS)
+target/bin/calls:
+	rt check calls
+
+interop: relayd $(CALLS)
+	tests/interop/packages
+	CALLS=$(CALLS) tests/interop/run

@@ -1,0 +1,218 @@
+"""The relay's edges on real sockets, by the small client in turn.py."""
+import socket
+import time
+
+import turn
+from lab import CLIENT, PEER, RELAY_PORTS, SERVER, SERVER6, STRANGER, wait_for
+
+
+def refused(action, code):
+    try:
+        action()
+    except turn.TurnError as error:
+        assert error.code == code, f"error {error.code} in place of {code}"
+    else:
+        raise AssertionError(f"no error {code}")
+
+
+def nothing(sock_or_client, seconds=0.3):
+    if isinstance(sock_or_client, turn.Client):
+        got = sock_or_client.receive(seconds)
+    else:
+        sock_or_client.settimeout(seconds)
+        try:
+            got = sock_or_client.recvfrom(65536)
+        except socket.timeout:
+            got = None
+    assert got is None, got
+
+
+def ready(lab, server=SERVER):
+    """A client with a permission for the peer, and the peer."""
+    client, peer = lab.client(server), lab.peer()
+    client.allocate()
+    client.permit(PEER)
+    return client, peer
+
+
+def case_send_and_data(lab):
+    "Send and Data, IPv4 and IPv6 clients, both ways, by an own client"
+    with lab.relayd():
+        for server in (SERVER, SERVER6):
+            client, peer = ready(lab, server)
+            assert client.lifetime == 600 and client.mapped == client.sock.getsockname()[:2]
+            client.send(peer.getsockname(), b"to the peer")
+            assert peer.recvfrom(65536) == (b"to the peer", client.relayed)
+            peer.sendto(b"back", client.relayed)
+            assert client.receive() == ("data", peer.getsockname(), b"back")
+
+
+def case_zero_length(lab):
+    "zero-length data, by Send and by channel, both ways"
+    with lab.relayd():
+        client, peer = ready(lab)
+        client.send(peer.getsockname(), b"")
+        assert peer.recvfrom(65536) == (b"", client.relayed)
+        peer.sendto(b"", client.relayed)
+        assert client.receive() == ("data", peer.getsockname(), b"")
+        client.bind(0x4FFF, peer.getsockname())
+        client.channel(0x4FFF, b"")
+        assert peer.recvfrom(65536) == (b"", client.relayed)
+        peer.sendto(b"", client.relayed)
+        assert client.receive() == ("channel", 0x4FFF, b"")
+
+
+def case_empty_datagram(lab):
+    "empty and senseless datagrams are dropped, and relayd goes on"
+    with lab.relayd() as relayd:
+        client, peer = ready(lab)
+        for junk in (b"", b"\0", b"\x40\0\0", bytes(20), b"\xff" * 1500, b"GET / HTTP/1.1\r\n\r\n"):
+            client.sock.send(junk)
+        nothing(client)
+        client.send(peer.getsockname(), b"still there")
+        assert peer.recv(65536) == b"still there"
+        assert sum(line.endswith("dropped") for line in relayd.log()) == 6
+
+
+def case_1500_bytes(lab):
+    "1,500-byte datagrams pass whole; 1,501 and up to 65,507 are refused with 4, never cut"
+    with lab.relayd() as relayd:
+        client, peer = ready(lab)
+        client.send(peer.getsockname(), b"s" * (1500 - 36))
+        assert peer.recv(65536) == b"s" * 1464
+        peer.sendto(b"d" * 1500, client.relayed)
+        assert client.receive() == ("data", peer.getsockname(), b"d" * 1500)
+        client.bind(0x4000, peer.getsockname())
+        client.channel(0x4000, b"c" * 1496)
+        assert peer.recv(65536) == b"c" * 1496
+        peer.sendto(b"p" * 1500, client.relayed)
+        assert client.receive() == ("channel", 0x4000, b"p" * 1500)
+        sizes = (1501, 1585, 1600, 9000, 65507)
+        for size in sizes:
+            client.sock.send(b"\x40\0" + (size - 4).to_bytes(2, "big") + bytes(size - 4))
+            peer.sendto(bytes(size), client.relayed)
+        nothing(peer)
+        nothing(client)
+        for size in sizes:
+            found = [line for line in relayd.log() if f" {size} bytes: refused 4" in line]
+            assert len(found) == 2, (size, found)
+
+
+def case_vanished_client(lab):
+    "a client that vanishes: its peer's data hurts nobody, and its port comes back when it lapses"
+    with lab.relayd("--clock-offset", "600") as relayd:
+        client, peer = ready(lab)
+        other, other_peer = ready(lab)
+        gone = client.relayed
+        client.close()
+        for _ in range(50):
+            peer.sendto(b"anyone?", gone)
+        other.send(other_peer.getsockname(), b"not me")
+        assert other_peer.recv(65536) == b"not me"
+        assert len([row for row in relayd.listing() if row[0] == "A"]) == 2
+        other.refresh(3600)
+        relayd.forward()
+        rows = [row for row in relayd.listing() if row[0] == "A"]
+        assert [int(row[7]) for row in rows] == [other.relayed[1]], rows
+        peer.sendto(b"anyone?", gone)
+        wait_for(lambda: f"at {gone[1]} 7 bytes: dropped" in "\n".join(relayd.log()), "the drop")
+
+
+def case_64_allocations(lab):
+    "64 allocations at once, all carrying data; a ninth of one user gets 486, a 65th 508"
+    with lab.relayd() as relayd:
+        # by-port: user 1 + port % 32; 32 in a row are 32 users, so 64 are two each.
+        clients = [lab.client(local=(CLIENT, 20000 + place)) for place in range(64)]
+        same_user = [lab.client(local=(CLIENT, 30016 + 32 * place)) for place in range(9)]
+        for client in same_user[:8]:
+            client.allocate()
+        refused(same_user[8].allocate, 486)
+        for client in same_user[:8]:
+            assert client.refresh(0) == 0
+        peer = lab.peer()
+        ports = [client.allocate()[1] for client in clients]
+        assert len(set(ports)) == 64 and set(ports) <= set(RELAY_PORTS)
+        refused(lab.client(local=(CLIENT, 21000)).allocate, 508)
+        refused(clients[5].allocate, 437)
+        for place, client in enumerate(clients):
+            client.bind(0x4000 + place, peer.getsockname())
+        for place, client in enumerate(clients):
+            client.channel(0x4000 + place, b"from %d" % place)
+        came = dict(reversed(peer.recvfrom(65536)) for _ in clients)
+        assert came == {client.relayed: b"from %d" % place for place, client in enumerate(clients)}
+        for place, client in enumerate(clients):
+            peer.sendto(b"to %d" % place, client.relayed)
+        for place, client in enumerate(clients):
+            assert client.receive() == ("channel", 0x4000 + place, b"to %d" % place)
+        assert len(relayd.listing()) == 64 * 3
+
+
+def case_ports_at_random(lab):
+    "relay ports can't be guessed: those of two runs differ, and none follows the last"
+    runs = []
+    for _ in range(2):
+        with lab.relayd():
+            runs.append([lab.client().allocate()[1] for _ in range(12)])
+    assert runs[0] != runs[1], runs
+    assert sum(later - earlier == 1 for run in runs for earlier, later in zip(run, run[1:])) < 6, runs
+
+
+def case_port_scan(lab):
+    "a scan of all 128 ports by a peer without permission: nothing comes through"
+    with lab.relayd() as relayd:
+        clients = [lab.client() for _ in range(8)]
+        peer, stranger = lab.peer(), lab.peer(STRANGER)
+        for client in clients:
+            client.allocate()
+            client.permit(PEER)
+        for port in RELAY_PORTS:
+            stranger.sendto(b"scan", (SERVER, port))
+        wait_for(lambda: sum(f"peer {STRANGER}" in line for line in relayd.log()) == 128, "the scan's end")
+        assert all(line.endswith("dropped") for line in relayd.log() if f"peer {STRANGER}" in line)
+        for client in clients:
+            nothing(client, 0.05)
+        # The same scan by the permitted peer does come through, so the silence means something.
+        for port in RELAY_PORTS:
+            peer.sendto(b"scan", (SERVER, port))
+        for client in clients:
+            assert client.receive() == ("data", peer.getsockname(), b"scan")
+
+
+def case_permission_lapses(lab):
+    "a permission carries for 300 seconds and not a second longer, by the relay's own clock"
+    with lab.relayd("--clock-offset", "297") as relayd:
+        client, peer = ready(lab)
+        made = int(next(line for line in relayd.log() if "CreatePermission success" in line).split()[0])
+        relayd.forward()
+        came = 0
+        for _ in range(26):
+            peer.sendto(b"tick", client.relayed)
+            came += client.receive(0.05) is not None
+            time.sleep(0.2)
+        wait_for(lambda: sum("peer " in line for line in relayd.log()) == 26, "all 26 outcomes")
+        times = [(int(line.split()[0]) - made, "to client" in line) for line in relayd.log() if "peer " in line]
+        assert times[0][0] < 300 <= times[-1][0], times
+        assert all(passed == (age < 300) for age, passed in times), times
+        assert came == sum(passed for _, passed in times)
+        refusal = [row for row in relayd.listing() if row[0] == "P"]
+        assert refusal == [], refusal
+
+
+def case_allocation_lapses(lab):
+    "an allocation lapses after 600 seconds, is kept by Refresh, and its client can allocate again"
+    with lab.relayd("--clock-offset", "590") as relayd:
+        kept, lapsed = lab.client(), lab.client()
+        kept.allocate()
+        lapsed.allocate()
+        relayd.forward()
+        assert kept.refresh(600) == 600
+        refused(lapsed.allocate, 437)
+        relayd.forward()
+        assert kept.refresh(600) == 600
+        refused(lambda: lapsed.refresh(600), 437)
+        lapsed.allocate()
+        assert len(relayd.listing()) == 2
+
+
+CASES = [case_send_and_data, case_zero_length, case_empty_datagram, case_1500_bytes, case_vanished_client, case_64_allocations,
+         case_ports_at_random, case_port_scan, case_permission_lapses, case_allocation_lapses]

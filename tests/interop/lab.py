@@ -1,0 +1,180 @@
+"""Three hosts in network namespaces (client, relay, peer), the daemon between them, and a capture of what it says to clients."""
+import contextlib
+import ctypes
+import os
+import pathlib
+import shutil
+import signal
+import socket
+import subprocess
+import tempfile
+import time
+
+import turn
+
+ROOT = pathlib.Path(__file__).resolve().parents[2]
+HERE = pathlib.Path(__file__).resolve().parent
+RELAYD = ROOT / "host/relayd/target/release/relayd"
+CALLS = pathlib.Path(os.environ.get("CALLS", "target/bin/calls"))
+CALLS = CALLS if CALLS.is_absolute() else ROOT / CALLS
+
+SERVER, SERVER6, PORT = "203.0.113.5", "fd00:51::1", 3478
+CLIENT, CLIENT6 = "198.51.100.7", "fd00:51::7"
+INNER = "192.0.2.1"
+PEER, STRANGER = "192.0.2.150", "192.0.2.151"
+RELAY_PORTS = range(49152, 49280)
+
+_libc = ctypes.CDLL(None, use_errno=True)
+
+
+def wait_for(test, what, seconds=10):
+    end = time.monotonic() + seconds
+    while time.monotonic() < end:
+        found = test()
+        if found:
+            return found
+        time.sleep(0.01)
+    raise AssertionError(f"{what} did not happen in {seconds} seconds")
+
+
+def ip(*words):
+    subprocess.run(["ip", *words], check=True, capture_output=True)
+
+
+class Relayd:
+    """A running relayd."""
+
+    def __init__(self, lab, process, folder):
+        self.lab, self.process, self.folder = lab, process, folder
+
+    def log(self):
+        return (self.folder / "log").read_text().splitlines()
+
+    def listing(self):
+        status = self.folder / "status"
+        status.unlink(missing_ok=True)
+        self.process.send_signal(signal.SIGUSR1)
+        wait_for(status.exists, "a listing")
+        return [line.split("\t") for line in status.read_text().splitlines()]
+
+    def forward(self):
+        """One SIGUSR2: the clock goes forward by --clock-offset."""
+        before = sum("put forward" in line for line in self.log())
+        self.process.send_signal(signal.SIGUSR2)
+        wait_for(lambda: sum("put forward" in line for line in self.log()) > before, "the clock's step")
+
+    def child(self):
+        children = pathlib.Path(f"/proc/{self.process.pid}/task/{self.process.pid}/children").read_text().split()
+        assert len(children) == 1, children
+        return int(children[0])
+
+
+class Lab:
+    def __init__(self):
+        self.folder = pathlib.Path(tempfile.mkdtemp(prefix="mudsluice-"))
+        self.names = {name: f"mudsluice-{os.getpid()}-{name}" for name in ("client", "relay", "peer")}
+        self.started = 0
+
+    def __enter__(self):
+        self.tidy_after_the_dead()
+        for name in self.names.values():
+            ip("netns", "add", name)
+            ip("-n", name, "link", "set", "lo", "up")
+        client, relay, peer = self.names["client"], self.names["relay"], self.names["peer"]
+        for near, far, end in (("to-client", client, "to-relay"), ("to-peer", peer, "to-relay")):
+            ip("-n", relay, "link", "add", near, "type", "veth", "peer", "name", end, "netns", far)
+            ip("-n", relay, "link", "set", near, "up")
+            ip("-n", far, "link", "set", end, "up")
+        addresses = [(relay, "lo", f"{SERVER}/32"), (relay, "to-client", "198.51.100.1/24"), (relay, "to-client", f"{SERVER6}/64"),
+                     (relay, "to-peer", f"{INNER}/24"), (client, "to-relay", f"{CLIENT}/24"), (client, "to-relay", f"{CLIENT6}/64"),
+                     (peer, "to-relay", f"{PEER}/24"), (peer, "to-relay", f"{STRANGER}/24")]
+        for host, link, address in addresses:
+            ip("-n", host, "addr", "add", address, "dev", link, *(["nodad"] if ":" in address else []))
+        ip("-n", client, "route", "add", "default", "via", "198.51.100.1")
+        ip("-n", peer, "route", "add", "default", "via", INNER)
+        return self
+
+    def __exit__(self, *_):
+        for name in self.names.values():
+            subprocess.run(["ip", "netns", "del", name], capture_output=True, check=False)
+        shutil.rmtree(self.folder, ignore_errors=True)
+
+    @staticmethod
+    def tidy_after_the_dead():
+        """Removes namespaces that a killed run has left."""
+        listed = subprocess.run(["ip", "netns", "list"], capture_output=True, text=True, check=True).stdout
+        for name in (line.split()[0] for line in listed.splitlines() if line.startswith("mudsluice-")):
+            if not pathlib.Path(f"/proc/{name.split('-')[1]}").exists():
+                ip("netns", "del", name)
+
+    @contextlib.contextmanager
+    def inside(self, host):
+        """Sockets and processes made in here are on that host."""
+        clone_newnet = 0x40000000
+        here, there = os.open("/proc/self/ns/net", os.O_RDONLY), os.open(f"/run/netns/{self.names[host]}", os.O_RDONLY)
+        try:
+            assert _libc.setns(there, clone_newnet) == 0, os.strerror(ctypes.get_errno())
+            yield
+        finally:
+            assert _libc.setns(here, clone_newnet) == 0
+            os.close(here)
+            os.close(there)
+
+    def start(self, host, *command, **options):
+        with self.inside(host):
+            return subprocess.Popen([str(word) for word in command], **options)
+
+    def run(self, host, *command, timeout=120, **options):
+        with self.inside(host):
+            return subprocess.run([str(word) for word in command], timeout=timeout, capture_output=True, text=True, check=False, **options)
+
+    def udp(self, host, address, port=0):
+        with self.inside(host):
+            sock = socket.socket(socket.AF_INET, socket.SOCK_DGRAM)
+        sock.bind((address, port))
+        sock.settimeout(2)
+        return sock
+
+    def peer(self, address=PEER):
+        return self.udp("peer", address)
+
+    def client(self, server=SERVER, local=None):
+        with self.inside("client"):
+            return turn.Client((server, PORT), local)
+
+    def relayd_command(self, *options, listen=(f"{SERVER}:{PORT}", f"[{SERVER6}]:{PORT}"), user="by-port"):
+        words = [RELAYD, "--calls", CALLS, "--user", user]
+        for address in listen:
+            words += ["--listen", address]
+        return words + list(options)
+
+    @contextlib.contextmanager
+    def relayd(self, *options, status=0, **setup):
+        """A fresh relayd on the relay host. It must end with this status, and if that is 0, without a word of trouble."""
+        self.started += 1
+        folder = self.folder / str(self.started)
+        folder.mkdir()
+        command = self.relayd_command("--log", folder / "log", "--status", folder / "status", *options, **setup)
+        with open(folder / "errors", "w+", encoding="utf-8") as errors:
+            process = self.start("relay", *command, stdout=subprocess.DEVNULL, stderr=errors)
+            try:
+                said = (folder / "errors").read_text
+                wait_for(lambda: "\n" in said() or process.poll() is not None, "relayd's start")
+                assert "listening" in said(), said()
+                yield Relayd(self, process, folder)
+            finally:
+                if process.poll() is None:
+                    process.terminate()
+                ended = process.wait(10)
+        assert ended == status, f"relayd ended with status {ended}: {said()}"
+        assert status or said().count("\n") == 1, said()
+
+    @contextlib.contextmanager
+    def process(self, host, *command):
+        """A helper process, ended at the end."""
+        process = self.start(host, *command, stdout=subprocess.DEVNULL, stderr=subprocess.DEVNULL)
+        try:
+            yield process
+        finally:
+            process.terminate()
+            process.wait(10)
