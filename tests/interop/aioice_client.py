@@ -23,7 +23,8 @@ class Receiver(asyncio.DatagramProtocol):
 async def main(server, peer):
     transport, receiver = await turn.create_turn_endpoint(Receiver, server_addr=server, username=None, password=None)
     for size in (1, 3, 100, 1200):
-        sent = os.urandom(size)
+        # Letters, so that tshark takes them for no protocol of their own.
+        sent = os.urandom(size).hex()[:size].encode()
         transport.sendto(sent, peer)
         assert await asyncio.wait_for(receiver.inbox.get(), 5) == (sent, peer), size
     transport.close()

@@ -14,7 +14,7 @@ import turn
 
 ROOT = pathlib.Path(__file__).resolve().parents[2]
 HERE = pathlib.Path(__file__).resolve().parent
-RELAYD = ROOT / "host/relayd/target/release/relayd"
+RELAYD = pathlib.Path(os.environ.get("RELAYD", ROOT / "host/relayd/target/release/relayd"))
 CALLS = pathlib.Path(os.environ.get("CALLS", "target/bin/calls"))
 CALLS = CALLS if CALLS.is_absolute() else ROOT / CALLS
 
