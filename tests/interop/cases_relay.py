@@ -87,15 +87,14 @@ def case_1500_bytes(lab):
         assert peer.recv(65536) == b"c" * 1496
         peer.sendto(b"p" * 1500, client.relayed)
         assert client.receive() == ("channel", 0x4000, b"p" * 1500)
-        sizes = (1501, 1585, 1600, 9000, 65507)
-        for size in sizes:
+        for size in (1501, 1585, 1600, 9000, 65507):
+            refusals = lambda: sum(f" {size} bytes: refused 4" in line for line in relayd.written())
             client.sock.send(b"\x40\0" + (size - 4).to_bytes(2, "big") + bytes(size - 4))
+            wait_for(lambda: refusals() == 1, f"the refusal of a client's {size} bytes")
             peer.sendto(bytes(size), client.relayed)
+            wait_for(lambda: refusals() == 2, f"the refusal of a peer's {size} bytes")
         nothing(peer)
         nothing(client)
-        for size in sizes:
-            found = [line for line in relayd.log() if f" {size} bytes: refused 4" in line]
-            assert len(found) == 2, (size, found)
 
 
 def case_vanished_client(lab):
@@ -115,7 +114,7 @@ def case_vanished_client(lab):
         rows = [row for row in relayd.listing() if row[0] == "A"]
         assert [int(row[7]) for row in rows] == [other.relayed[1]], rows
         peer.sendto(b"anyone?", gone)
-        wait_for(lambda: f"at {gone[1]} 7 bytes: dropped" in "\n".join(relayd.log()), "the drop")
+        wait_for(lambda: f"at {gone[1]} 7 bytes: dropped" in "\n".join(relayd.written()), "the drop")
 
 
 def case_64_allocations(lab):
@@ -167,7 +166,7 @@ def case_port_scan(lab):
             client.permit(PEER)
         for port in RELAY_PORTS:
             stranger.sendto(b"scan", (SERVER, port))
-        wait_for(lambda: sum(f"peer {STRANGER}" in line for line in relayd.log()) == 128, "the scan's end")
+        wait_for(lambda: sum(f"peer {STRANGER}" in line for line in relayd.written()) == 128, "the scan's end")
         assert all(line.endswith("dropped") for line in relayd.log() if f"peer {STRANGER}" in line)
         for client in clients:
             nothing(client, 0.05)
@@ -189,7 +188,7 @@ def case_permission_lapses(lab):
             peer.sendto(b"tick", client.relayed)
             came += client.receive(0.05) is not None
             time.sleep(0.2)
-        wait_for(lambda: sum("peer " in line for line in relayd.log()) == 26, "all 26 outcomes")
+        wait_for(lambda: sum("peer " in line for line in relayd.written()) == 26, "all 26 outcomes")
         times = [(int(line.split()[0]) - made, "to client" in line) for line in relayd.log() if "peer " in line]
         assert times[0][0] < 300 <= times[-1][0], times
         assert all(passed == (age < 300) for age, passed in times), times

@@ -47,8 +47,14 @@ class Relayd:
     def __init__(self, lab, process, folder):
         self.lab, self.process, self.folder = lab, process, folder
 
-    def log(self):
+    def written(self):
+        """The log as it stands. A reply may be out before its line is."""
         return (self.folder / "log").read_text().splitlines()
+
+    def log(self):
+        """The log with the lines of all replies that have come: relayd writes them out before it looks at the next signal."""
+        self.listing()
+        return self.written()
 
     def listing(self):
         status = self.folder / "status"
@@ -59,9 +65,9 @@ class Relayd:
 
     def forward(self):
         """One SIGUSR2: the clock goes forward by --clock-offset."""
-        before = sum("put forward" in line for line in self.log())
+        before = sum("put forward" in line for line in self.written())
         self.process.send_signal(signal.SIGUSR2)
-        wait_for(lambda: sum("put forward" in line for line in self.log()) > before, "the clock's step")
+        wait_for(lambda: sum("put forward" in line for line in self.written()) > before, "the clock's step")
 
     def child(self):
         children = pathlib.Path(f"/proc/{self.process.pid}/task/{self.process.pid}/children").read_text().split()

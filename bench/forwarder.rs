@@ -1,0 +1,114 @@
+//! A bare UDP forwarder: what relaying costs on these sockets before anything is decided.
+//!
+//!     forwarder SERVER PEER COUNT
+//!
+//! A datagram of one byte gives a new client the next of COUNT relay sockets (ports 52000 and up), and answers with its port (two bytes).
+//! A client's other datagrams go to PEER from that socket, and what comes to that socket goes to it from SERVER, unchanged. One thread,
+//! poll, batches of 32: as relayd does it. Only for the bench: it trusts everybody.
+
+use std::collections::HashMap;
+use std::env;
+use std::ffi::{c_int, c_short, c_ulong};
+use std::io;
+use std::net::{SocketAddr, UdpSocket};
+use std::os::fd::AsRawFd;
+
+#[repr(C)]
+struct PollEntry {
+    fd: c_int,
+    events: c_short,
+    revents: c_short,
+}
+
+unsafe extern "C" {
+    fn poll(entries: *mut PollEntry, count: c_ulong, timeout: c_int) -> c_int;
+}
+
+struct Forwarder {
+    server: UdpSocket,
+    relays: Vec<UdpSocket>,
+    peer: SocketAddr,
+    places: HashMap<SocketAddr, usize>,
+    clients: Vec<SocketAddr>,
+}
+
+impl Forwarder {
+    fn new(server: &str, peer: &str, count: u16) -> io::Result<Self> {
+        let bind = |address: SocketAddr| UdpSocket::bind(address).and_then(|socket| socket.set_nonblocking(true).map(|()| socket));
+        let server: SocketAddr = server.parse().map_err(io::Error::other)?;
+        let relays = (0..count)
+            .map(|place| bind(SocketAddr::new(server.ip(), 52000 + place)))
+            .collect::<io::Result<_>>()?;
+        let peer = peer.parse().map_err(io::Error::other)?;
+        Ok(Forwarder {
+            server: bind(server)?,
+            relays,
+            peer,
+            places: HashMap::new(),
+            clients: Vec::new(),
+        })
+    }
+
+    fn from_client(&mut self, from: SocketAddr, datagram: &[u8]) -> io::Result<()> {
+        let known = self.places.get(&from).copied();
+        if let (Some(place), true) = (known, datagram.len() != 1) {
+            let _ = self.relays[place].send_to(datagram, self.peer);
+            return Ok(());
+        }
+        let place = known.unwrap_or(self.clients.len());
+        if let Some(relay) = self.relays.get(place) {
+            if known.is_none() {
+                self.places.insert(from, place);
+                self.clients.push(from);
+            }
+            self.server.send_to(&relay.local_addr()?.port().to_be_bytes(), from)?;
+        }
+        Ok(())
+    }
+
+    fn drain(&mut self, place: usize, buffer: &mut [u8]) -> io::Result<()> {
+        for _ in 0..32 {
+            if place == 0 {
+                let Ok((length, from)) = self.server.recv_from(buffer) else { break };
+                self.from_client(from, &buffer[..length])?;
+            } else {
+                let Ok((length, _)) = self.relays[place - 1].recv_from(buffer) else {
+                    break;
+                };
+                if let Some(client) = self.clients.get(place - 1) {
+                    let _ = self.server.send_to(&buffer[..length], client);
+                }
+            }
+        }
+        Ok(())
+    }
+
+    fn run(mut self) -> io::Result<()> {
+        let entry = |socket: &UdpSocket| PollEntry {
+            fd: socket.as_raw_fd(),
+            events: 1,
+            revents: 0,
+        };
+        let mut entries: Vec<PollEntry> = std::iter::once(&self.server).chain(&self.relays).map(entry).collect();
+        let mut buffer = vec![0; 1 << 16];
+        loop {
+            // SAFETY: the pointer and the count are those of one live vector of `struct pollfd`.
+            if unsafe { poll(entries.as_mut_ptr(), entries.len() as c_ulong, -1) } < 0 {
+                return Err(io::Error::last_os_error());
+            }
+            for place in 0..entries.len() {
+                if entries[place].revents != 0 {
+                    self.drain(place, &mut buffer)?;
+                }
+            }
+        }
+    }
+}
+
+fn main() -> io::Result<()> {
+    let words: Vec<String> = env::args().collect();
+    let [_, server, peer, count] = &words[..] else {
+        return Err(io::Error::other("forwarder SERVER PEER COUNT"));
+    };
+    Forwarder::new(server, peer, count.parse().map_err(io::Error::other)?)?.run()
+}

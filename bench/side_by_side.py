@@ -1,0 +1,133 @@
+#!/usr/bin/env python3
+"""CPU time for each relayed packet: relayd, coturn and a bare UDP forwarder, interleaved in one run.
+
+    bench/side_by_side.py [ROUNDS] [MILLISECONDS]     needs root, cargo's rustc, coturn, make relayd; CALLS=PATH names calls
+
+Each round takes every case (160 and 1,200 bytes, up and down, 1 and 64 allocations) through the three relays in turn. The relay runs on
+one core and the load on the other, as fast as it can, so that the relay is saturated. What is told is the CPU time that the kernel counts
+for the relay's threads (/proc/PID/task/*/schedstat), divided by the packets that it passed on: other load on the machine takes the
+relay's time away, but is not counted as its own. Prints a table for docs/PERFORMANCE.md.
+"""
+import collections
+import os
+import pathlib
+import statistics
+import subprocess
+import sys
+import tempfile
+import time
+
+ROOT = pathlib.Path(__file__).resolve().parents[1]
+BUILT = ROOT / "bench/target"
+CALLS = ROOT / os.environ.get("CALLS", "target/bin/calls")
+HOST, PEER = "203.0.113.5", "203.0.113.5:7000"
+CASES = [(direction, size, count) for direction in ("up", "down") for size in (160, 1200) for count in (1, 64)]
+LOAD_CORE, RELAY_CORE = {0}, {max(os.sched_getaffinity(0))}
+
+
+def alone():
+    """Runs this script again in a network namespace of its own, which ends with it."""
+    if os.environ.get("SIDE_BY_SIDE") != "alone":
+        os.environ["SIDE_BY_SIDE"] = "alone"
+        os.execvp("unshare", ["unshare", "--net", "--kill-child", "--fork", sys.executable, __file__, *sys.argv[1:]])
+    for words in (["link", "set", "lo", "up"], ["addr", "add", f"{HOST}/32", "dev", "lo"]):
+        subprocess.run(["ip", *words], check=True)
+
+
+def build():
+    BUILT.mkdir(exist_ok=True)
+    for name in ("load", "forwarder"):
+        subprocess.run(["rustc", "-O", "--edition", "2024", "-o", BUILT / name, ROOT / f"bench/{name}.rs"], check=True)
+
+
+def start(*command):
+    pin = lambda: os.sched_setaffinity(0, RELAY_CORE)
+    return subprocess.Popen([str(word) for word in command], preexec_fn=pin, stdout=subprocess.DEVNULL, stderr=subprocess.DEVNULL)
+
+
+def pids(process):
+    children = pathlib.Path(f"/proc/{process.pid}/task/{process.pid}/children").read_text().split()
+    return [str(process.pid), *children]
+
+
+def start_all(folder):
+    """Each relay's kind for the load, its server port and its process."""
+    turnserver = ["turnserver", "-n", "--no-auth", "--no-cli", "--no-tls", "--no-dtls", "--no-tcp", "-L", HOST, "-E", HOST, "-p", 3479, "-m", 1,
+                  "--min-port", 50000, "--max-port", 50999, "--log-file", folder / "log", "--simple-log", "--pidfile", folder / "pid",
+                  "--db", folder / "db"]
+    relays = {
+        "bare": ("bare", 3480, start(BUILT / "forwarder", f"{HOST}:3480", PEER, 64)),
+        "coturn": ("turn", 3479, start(*turnserver)),
+        "relayd": ("turn", 3478, start(ROOT / "host/relayd/target/release/relayd", "--calls", CALLS, "--listen", f"{HOST}:3478", "--user", "by-port")),
+    }
+    time.sleep(2)
+    for name, (_, _, process) in relays.items():
+        if process.poll() is not None:
+            sys.exit(f"side_by_side: {name} did not start")
+    return relays
+
+
+Sample = collections.namedtuple("Sample", "sent passed nanoseconds")
+
+
+def measure(relay, case, milliseconds):
+    kind, port, process = relay
+    direction, size, count = case
+    command = [BUILT / "load", kind, f"{HOST}:{port}", PEER, count, size, direction, milliseconds, *pids(process)]
+    pin = lambda: os.sched_setaffinity(0, LOAD_CORE)
+    done = subprocess.run([str(word) for word in command], preexec_fn=pin, capture_output=True, text=True, check=False)
+    if done.returncode != 0:
+        sys.exit(f"side_by_side: {' '.join(map(str, command))}: {done.stderr}")
+    sent, passed, *spent = map(int, done.stdout.split())
+    return Sample(sent, passed, spent)
+
+
+def each(samples):
+    return [sum(sample.nanoseconds) / sample.passed for sample in samples]
+
+
+def row(case, found):
+    direction, size, count = case
+    cells = [{"up": "client to peer", "down": "peer to client"}[direction], f"{size:,}", str(count)]
+    costs = {name: each(samples) for name, samples in found.items()}
+    for cost in costs.values():
+        cells.append(f"{min(cost):,.0f} / {statistics.median(cost):,.0f}")
+    for other in ("bare", "coturn"):
+        best, middle = (of(costs["relayd"]) / of(costs[other]) for of in (min, statistics.median))
+        cells.append(f"{best:.1f} / {middle:.1f}")
+    for samples in found.values():
+        sent, passed = sum(sample.sent for sample in samples), sum(sample.passed for sample in samples)
+        cells.append(f"{100 * (sent - passed) / sent:.0f}%")
+    return "| " + " | ".join(cells) + " |"
+
+
+def main(rounds=7, milliseconds=500):
+    alone()
+    build()
+    results = {case: {"bare": [], "coturn": [], "relayd": []} for case in CASES}
+    loads = [os.getloadavg()[0]]
+    with tempfile.TemporaryDirectory() as folder:
+        relays = start_all(pathlib.Path(folder))
+        try:
+            for place in range(rounds):
+                for case in CASES:
+                    for name, relay in relays.items():
+                        results[case][name].append(measure(relay, case, milliseconds))
+                loads.append(os.getloadavg()[0])
+                print(f"round {place + 1} of {rounds}", file=sys.stderr)
+        finally:
+            for _, _, process in relays.values():
+                process.terminate()
+                process.wait(10)
+    print("| direction | bytes | allocations | bare ns | coturn ns | relayd ns | relayd : bare | relayd : coturn | lost: bare | coturn | relayd |")
+    print("|---|---|---|---|---|---|---|---|---|---|---|")
+    for case, found in results.items():
+        print(row(case, found))
+    relayd = [sample for found in results.values() for sample in found["relayd"]]
+    share = sum(sample.nanoseconds[0] for sample in relayd) / sum(sum(sample.nanoseconds) for sample in relayd)
+    print(f"\n{rounds} rounds of {milliseconds} ms; of relayd's time {100 * share:.0f}% is relayd's own and {100 - 100 * share:.0f}% is calls'.")
+    print(f"Load averages of the machine at the start and after each round: {', '.join(f'{load:.1f}' for load in loads)}.")
+
+
+if __name__ == "__main__":
+    main(*map(int, sys.argv[1:]))
