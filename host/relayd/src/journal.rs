@@ -219,4 +219,106 @@ mod tests {
         journal.shorten("", 5).expect("an empty table");
         assert_eq!(journal.input(5), b"P\t5\t00000000\t0\t0\t\n");
     }
+
+    /// What `calls` answers to these lines, and its listing.
+    fn ask(calls: &std::ffi::OsStr, input: &[u8]) -> (Vec<String>, String) {
+        let path = std::env::temp_dir().join(format!("relayd-test-{}-lines", std::process::id()));
+        std::fs::write(&path, input).expect("the lines are written");
+        let file = std::fs::File::open(&path).expect("and read");
+        let done = std::process::Command::new(calls).stdin(file).output().expect("calls runs");
+        std::fs::remove_file(&path).expect("the lines are removed");
+        let text = String::from_utf8(done.stdout).expect("text");
+        let count = input.split(|&byte| byte == b'\n').count() - 1;
+        let answers = text.lines().take(count).map(String::from).collect();
+        (answers, text.split_inclusive('\n').skip(count).collect())
+    }
+
+    /// The rows by their owner in place of their slot, in order.
+    fn by_owner(listing: &str) -> Vec<String> {
+        let mut owner = String::new();
+        let mut rows = Vec::new();
+        for row in listing.lines() {
+            let fields: Vec<&str> = row.split('\t').collect();
+            if fields[0] == "A" {
+                owner = fields[3..5].join(":");
+            }
+            rows.push(format!("{owner} {} {}", fields[0], fields[2..].join(" ")));
+        }
+        rows.sort();
+        rows
+    }
+
+    /// A number below `end`, from a sequence that the seed fixes.
+    fn below(seed: &mut u64, end: u64) -> u64 {
+        *seed ^= *seed << 13;
+        *seed ^= *seed >> 7;
+        *seed ^= *seed << 17;
+        *seed % end
+    }
+
+    /// A request of any kind by one of few clients, about few peers and channels, so that all limits are met.
+    fn any_request(seed: &mut u64, time: u64, clients: u64) -> Vec<u8> {
+        let client = u16::try_from(below(seed, clients)).expect("a small number");
+        let owner = Owner {
+            user: u32::from(client % 2) + 1,
+            client: SocketAddr::from(([198, 51, 100, 7], client)),
+            relay_port: u16::try_from(below(seed, 65536)).expect("16 bits"),
+        };
+        let mut peer = || {
+            let port = u16::try_from(below(seed, 2)).expect("a small number");
+            let host = u8::try_from(below(seed, 10)).expect("a small number");
+            attribute(0x12, &peer_value(SocketAddr::from(([192, 0, 2, host], port))).expect("IPv4"))
+        };
+        let (first, second) = (peer(), peer());
+        let long = lifetime(below(seed, 5000)).expect("32 bits");
+        let channel = attribute(0x0c, &[0x40, u8::try_from(below(seed, 10)).expect("a small number"), 0, 0]);
+        let mut made = Vec::new();
+        match below(seed, 10) {
+            0 | 1 => add(&mut made, owner, time, 3, &[attribute(0x19, &[17, 0, 0, 0]), long].concat()),
+            2 => add(&mut made, owner, time, 4, &long),
+            3 => add(&mut made, owner, time, 4, &lifetime(below(seed, 2) * 600).expect("32 bits")),
+            4..=6 => add(&mut made, owner, time, 8, &[first, second].concat()),
+            _ => add(&mut made, owner, time, 9, &[channel, first].concat()),
+        }
+        made.remove(0).line
+    }
+
+    #[test]
+    #[ignore = "needs the proved program: CALLS=PATH cargo test -- --ignored"]
+    fn a_short_journal_lists_what_the_whole_history_does() {
+        let calls = std::env::var_os("CALLS").expect("CALLS names the proved program");
+        let (mut quota, mut no_room) = (0, 0);
+        for first in 1..=60 {
+            let (mut seed, clients) = (first, if first % 2 == 0 { 3 } else { 24 });
+            let (mut now, mut whole, mut short) = (below(&mut seed, 900), Journal::new(), Journal::new());
+            for _ in 0..12 {
+                let mut lines = Vec::new();
+                for _ in 0..60 {
+                    now += [0, 0, 0, 1, 3, 10, 20][usize::try_from(below(&mut seed, 7)).expect("a small number")];
+                    lines.push(any_request(&mut seed, now, clients));
+                }
+                let before = whole.text.clone();
+                let asked = before.split(|&byte| byte == b'\n').count() - 1;
+                let (answers, _) = ask(&calls, &[before, lines.concat()].concat());
+                for (line, answer) in lines.iter().zip(&answers[asked..]) {
+                    if matches!(answer.split('\t').nth(3).map(str::as_bytes), Some([b'0', b'1', b'0', ..])) {
+                        whole.record(line);
+                        short.record(line);
+                    }
+                }
+                let (_, listing) = ask(&calls, &whole.input(now));
+                let (again, from_short) = ask(&calls, &short.input(now));
+                assert_eq!(
+                    again.iter().filter(|answer| !answer.starts_with("S\t")).count(),
+                    1,
+                    "from {first}, at {now}"
+                );
+                assert_eq!(by_owner(&from_short), by_owner(&listing), "from {first}, at {now}");
+                short.shorten(&from_short, now).expect("a listing");
+                quota += answers.iter().filter(|answer| answer.ends_with("0009000400000456")).count();
+                no_room += answers.iter().filter(|answer| answer.ends_with("0009000400000508")).count();
+            }
+        }
+        assert!(quota > 100 && no_room > 100, "the limits were met too rarely: {quota} {no_room}");
+    }
 }
