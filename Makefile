@@ -17,6 +17,7 @@ fmt:
 # The daemon stands outside the proof. Where there is no cargo, its tests are left out.
 relayd-test:
 	@if command -v cargo >/dev/null; then set -e; cd host/relayd; cargo build --offline --quiet; cargo test --offline --quiet; \
+	if cargo clippy --version >/dev/null 2>&1; then cargo clippy --offline --quiet --all-targets -- -D warnings; fi; \
 	else echo "no cargo: host/relayd is not built and its tests are not run"; fi
 
 relayd:
@@ -29,4 +30,5 @@ target/bin/calls:
 
 interop: relayd $(CALLS)
 	tests/interop/packages
+	cd host/relayd && CALLS=$(abspath $(CALLS)) cargo test --release --offline --quiet -- --ignored
 	CALLS=$(CALLS) tests/interop/run

@@ -163,6 +163,7 @@ fn peer_value(peer: SocketAddr) -> Option<Vec<u8>> {
 #[cfg(test)]
 mod tests {
     use super::*;
+    use crate::pipe::is_accepted;
 
     fn lines(listing: &str, now: u64) -> Vec<String> {
         let text = requests(listing, now).expect("a listing");
@@ -301,7 +302,7 @@ mod tests {
                 let asked = before.split(|&byte| byte == b'\n').count() - 1;
                 let (answers, _) = ask(&calls, &[before, lines.concat()].concat());
                 for (line, answer) in lines.iter().zip(&answers[asked..]) {
-                    if matches!(answer.split('\t').nth(3).map(str::as_bytes), Some([b'0', b'1', b'0', ..])) {
+                    if is_accepted(answer) {
                         whole.record(line);
                         short.record(line);
                     }
@@ -309,7 +310,7 @@ mod tests {
                 let (_, listing) = ask(&calls, &whole.input(now));
                 let (again, from_short) = ask(&calls, &short.input(now));
                 assert_eq!(
-                    again.iter().filter(|answer| !answer.starts_with("S\t")).count(),
+                    again.iter().filter(|answer| !is_accepted(answer)).count(),
                     1,
                     "from {first}, at {now}"
                 );

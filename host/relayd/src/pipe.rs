@@ -200,12 +200,18 @@ impl Relay for Pipe {
             .map_err(|error| Failure(format!("no listing from {path}: {error}")))?;
         let asked = input.split(|&byte| byte == b'\n').count() - 1;
         let (answers, listing) = after_lines(&output, asked).ok_or_else(|| Failure(format!("no listing from {path}")))?;
-        let accepted = answers.lines().filter(|answer| answer.starts_with("S\t")).count();
+        let accepted = answers.lines().filter(|answer| is_accepted(answer)).count();
         if accepted + 1 != asked {
             return Err(Failure(format!("{path} took {accepted} of {} accepted requests again", asked - 1)));
         }
         Ok(listing.to_string())
     }
+}
+
+/// Whether an answer's line is a success response.
+pub fn is_accepted(answer: &str) -> bool {
+    let mut bytes = Vec::new();
+    matches!(line::read(answer.as_bytes(), &mut bytes), Some(Answer::ToClient(_))) && is_success(&bytes)
 }
 
 /// The first `count` lines of a text, and the rest.
@@ -294,6 +300,21 @@ mod tests {
             .expect("dropped");
         assert_eq!(pipe.journal.input(9).split(|&byte| byte == b'\n').count(), 3);
         assert_eq!(pipe.listing(9).expect("a listing"), "A\t0\n");
+    }
+
+    #[test]
+    fn a_success_is_told_from_an_error() {
+        assert!(is_accepted("S\tc6336407\t40000\t01080000"));
+        for answer in [
+            "S\tc6336407\t40000\t01180000",
+            "S\tc6336407\t40000\t00170000",
+            "S\tc6336407\t40000\t",
+            "D",
+            "E",
+            "R\t1",
+        ] {
+            assert!(!is_accepted(answer), "{answer}");
+        }
     }
 
     #[test]
