@@ -11,6 +11,7 @@ relay's time away, but is not counted as its own. Prints a table for docs/PERFOR
 import collections
 import os
 import pathlib
+import signal
 import statistics
 import subprocess
 import sys
@@ -29,7 +30,7 @@ def alone():
     """Runs this script again in a network namespace of its own, which ends with it."""
     if os.environ.get("SIDE_BY_SIDE") != "alone":
         os.environ["SIDE_BY_SIDE"] = "alone"
-        os.execvp("unshare", ["unshare", "--net", "--kill-child", "--fork", sys.executable, __file__, *sys.argv[1:]])
+        os.execvp("unshare", ["unshare", "--net", sys.executable, __file__, *sys.argv[1:]])
     for words in (["link", "set", "lo", "up"], ["addr", "add", f"{HOST}/32", "dev", "lo"]):
         subprocess.run(["ip", *words], check=True)
 
@@ -40,9 +41,20 @@ def build():
         subprocess.run(["rustc", "-O", "--edition", "2024", "-o", BUILT / name, ROOT / f"bench/{name}.rs"], check=True)
 
 
+STARTED = []
+
+
 def start(*command):
     pin = lambda: os.sched_setaffinity(0, RELAY_CORE)
-    return subprocess.Popen([str(word) for word in command], preexec_fn=pin, stdout=subprocess.DEVNULL, stderr=subprocess.DEVNULL)
+    words = [str(word) for word in command]
+    STARTED.append(subprocess.Popen(words, preexec_fn=pin, stdout=subprocess.DEVNULL, stderr=subprocess.DEVNULL))
+    return STARTED[-1]
+
+
+def end_all():
+    for process in STARTED:
+        process.terminate()
+        process.wait(10)
 
 
 def pids(process):
@@ -52,13 +64,14 @@ def pids(process):
 
 def start_all(folder):
     """Each relay's kind for the load, its server port and its process."""
-    turnserver = ["turnserver", "-n", "--no-auth", "--no-cli", "--no-tls", "--no-dtls", "--no-tcp", "-L", HOST, "-E", HOST, "-p", 3479, "-m", 1,
-                  "--min-port", 50000, "--max-port", 50999, "--log-file", folder / "log", "--simple-log", "--pidfile", folder / "pid",
-                  "--db", folder / "db"]
+    turnserver = ["turnserver", "-n", "--no-auth", "--no-cli", "--no-tls", "--no-dtls", "--no-tcp", "-L", HOST, "-E", HOST, "-p", 3479,
+                  "-m", 1, "--min-port", 50000, "--max-port", 50999, "--log-file", folder / "log", "--simple-log",
+                  "--pidfile", folder / "pid", "--db", folder / "db"]
+    relayd = ROOT / "host/relayd/target/release/relayd"
     relays = {
         "bare": ("bare", 3480, start(BUILT / "forwarder", f"{HOST}:3480", PEER, 64)),
         "coturn": ("turn", 3479, start(*turnserver)),
-        "relayd": ("turn", 3478, start(ROOT / "host/relayd/target/release/relayd", "--calls", CALLS, "--listen", f"{HOST}:3478", "--user", "by-port")),
+        "relayd": ("turn", 3478, start(relayd, "--calls", CALLS, "--listen", f"{HOST}:3478", "--user", "by-port")),
     }
     time.sleep(2)
     for name, (_, _, process) in relays.items():
@@ -106,9 +119,10 @@ def main(rounds=7, milliseconds=500):
     build()
     results = {case: {"bare": [], "coturn": [], "relayd": []} for case in CASES}
     loads = [os.getloadavg()[0]]
+    signal.signal(signal.SIGTERM, lambda *_: sys.exit("side_by_side: ended by a signal"))
     with tempfile.TemporaryDirectory() as folder:
-        relays = start_all(pathlib.Path(folder))
         try:
+            relays = start_all(pathlib.Path(folder))
             for place in range(rounds):
                 for case in CASES:
                     for name, relay in relays.items():
@@ -116,16 +130,15 @@ def main(rounds=7, milliseconds=500):
                 loads.append(os.getloadavg()[0])
                 print(f"round {place + 1} of {rounds}", file=sys.stderr)
         finally:
-            for _, _, process in relays.values():
-                process.terminate()
-                process.wait(10)
-    print("| direction | bytes | allocations | bare ns | coturn ns | relayd ns | relayd : bare | relayd : coturn | lost: bare | coturn | relayd |")
+            end_all()
+    print("| direction | bytes | allocations | bare ns | coturn ns | relayd ns "
+          "| relayd : bare | relayd : coturn | lost: bare | coturn | relayd |")
     print("|---|---|---|---|---|---|---|---|---|---|---|")
     for case, found in results.items():
         print(row(case, found))
     relayd = [sample for found in results.values() for sample in found["relayd"]]
     share = sum(sample.nanoseconds[0] for sample in relayd) / sum(sum(sample.nanoseconds) for sample in relayd)
-    print(f"\n{rounds} rounds of {milliseconds} ms; of relayd's time {100 * share:.0f}% is relayd's own and {100 - 100 * share:.0f}% is calls'.")
+    print(f"\n{rounds} rounds of {milliseconds} ms. Of relayd's time {100 * share:.0f}% is its own and {100 - 100 * share:.0f}% is calls'.")
     print(f"Load averages of the machine at the start and after each round: {', '.join(f'{load:.1f}' for load in loads)}.")
 
 

@@ -3,7 +3,7 @@ import socket
 import time
 
 import turn
-from lab import CLIENT, PEER, RELAY_PORTS, SERVER, SERVER6, STRANGER, wait_for
+from lab import CLIENT, INNER, PEER, RELAY_PORTS, SERVER, SERVER6, STRANGER, wait_for
 
 
 def refused(action, code):
@@ -45,6 +45,21 @@ def case_send_and_data(lab):
             assert peer.recvfrom(65536) == (b"to the peer", client.relayed)
             peer.sendto(b"back", client.relayed)
             assert client.receive() == ("data", peer.getsockname(), b"back")
+
+
+def case_two_clients(lab):
+    "two clients, an IPv4 and an IPv6 one, each the other's peer through the relay, with its own address and with another"
+    for relay in (SERVER, INNER):
+        with lab.relayd("--relay", relay):
+            one, two = lab.client(), lab.client(SERVER6)
+            for client in (one, two):
+                assert client.allocate()[0] == relay
+            one.permit(relay)
+            two.bind(0x4000, one.relayed)
+            one.send(two.relayed, b"from one")
+            assert two.receive() == ("channel", 0x4000, b"from one")
+            two.channel(0x4000, b"from two")
+            assert one.receive() == ("data", two.relayed, b"from two")
 
 
 def case_zero_length(lab):
@@ -213,5 +228,5 @@ def case_allocation_lapses(lab):
         assert len(relayd.listing()) == 2
 
 
-CASES = [case_send_and_data, case_zero_length, case_empty_datagram, case_1500_bytes, case_vanished_client, case_64_allocations,
+CASES = [case_send_and_data, case_two_clients, case_zero_length, case_empty_datagram, case_1500_bytes, case_vanished_client, case_64_allocations,
          case_ports_at_random, case_port_scan, case_permission_lapses, case_allocation_lapses]

@@ -9,7 +9,7 @@ use crate::sys::{SIGCHLD, SIGUSR1, SIGUSR2, Signals, Waiting};
 use crate::users::Users;
 use std::fs;
 use std::io::{self, ErrorKind, Write};
-use std::net::{SocketAddr, UdpSocket};
+use std::net::SocketAddr;
 use std::os::fd::AsRawFd;
 use std::path::{Path, PathBuf};
 
@@ -36,6 +36,13 @@ pub struct Server<R: Relay> {
     pub status: Option<PathBuf>,
     /// What SIGUSR2 adds to the clock.
     pub clock_offset: u64,
+}
+
+/// The socket that a datagram came in by: its place among the server's or among the relay ports.
+#[derive(Clone, Copy)]
+enum Door {
+    Server(usize),
+    Port(usize),
 }
 
 /// Whether to go on.
@@ -65,23 +72,23 @@ impl<R: Relay> Server<R> {
                             return Ok(());
                         }
                     }
-                    Some(place) if place < servers => self.drain(place, None, &mut buffer)?,
-                    Some(place) => self.drain(place - servers, Some(place - servers), &mut buffer)?,
+                    Some(place) if place < servers => self.drain(Door::Server(place), &mut buffer)?,
+                    Some(place) => self.drain(Door::Port(place - servers), &mut buffer)?,
                 }
             }
         }
     }
 
-    /// Takes what has come at a server socket, or at a relay port.
-    fn drain(&mut self, server: usize, port: Option<usize>, buffer: &mut [u8]) -> Result<(), Failure> {
+    /// Takes what has come in by one socket, up to a batch.
+    fn drain(&mut self, door: Door, buffer: &mut [u8]) -> Result<(), Failure> {
         for _ in 0..BATCH {
-            let socket: &UdpSocket = match port {
-                None => &self.sockets.servers[server],
-                Some(place) => &self.sockets.ports[place],
+            let received = match door {
+                Door::Server(place) => self.sockets.servers[place].recv_from(buffer),
+                Door::Port(place) => self.sockets.ports[place].recv_from(buffer),
             };
-            match (socket.recv_from(buffer), port) {
-                (Ok((length, from)), None) => self.client_datagram(from, &buffer[..length])?,
-                (Ok((length, from)), Some(place)) => self.peer_datagram(from, place, &buffer[..length])?,
+            match (received, door) {
+                (Ok((length, from)), Door::Server(_)) => self.client_datagram(from, &buffer[..length])?,
+                (Ok((length, from)), Door::Port(place)) => self.peer_datagram(from, place, &buffer[..length])?,
                 (Err(error), _) if error.kind() == ErrorKind::WouldBlock => break,
                 (Err(error), _) => self.log.note(self.clock.now(), &format!("cannot receive: {error}")),
             }
