@@ -2,7 +2,7 @@
 //!
 //! `calls` lists its table only at the end of its input. So relayd keeps the lines of the requests that were answered with success, the
 //! only ones that change the table, and for a listing a second `calls` reads them and then the time. When they grow too long, they are
-//! replaced by the fewest requests that make the table which that listing shows.
+//! replaced by the few requests that make the table which the listing shows.
 
 use crate::line::{self, decimal};
 use std::io::Write;

@@ -18,12 +18,27 @@ pub enum Answer {
     ToPeer(u16, SocketAddr),
 }
 
+const DIGITS: &[u8; 16] = b"0123456789abcdef";
+const NONE: u8 = 16;
+
+/// The value of each character as a digit; `NONE` for those that are none.
+const VALUES: [u8; 256] = {
+    let mut values = [NONE; 256];
+    let mut value = 0;
+    while value < 16 {
+        values[DIGITS[value as usize] as usize] = value;
+        value += 1;
+    }
+    values
+};
+
 /// Appends bytes as lower case hex digits.
 pub fn put_hex(line: &mut Vec<u8>, bytes: &[u8]) {
-    const DIGITS: &[u8; 16] = b"0123456789abcdef";
-    for byte in bytes {
-        line.push(DIGITS[usize::from(byte >> 4)]);
-        line.push(DIGITS[usize::from(byte & 15)]);
+    let begin = line.len();
+    line.resize(begin + 2 * bytes.len(), 0);
+    let (pairs, _) = line[begin..].as_chunks_mut();
+    for (pair, byte) in pairs.iter_mut().zip(bytes) {
+        *pair = [DIGITS[usize::from(byte >> 4)], DIGITS[usize::from(byte & 15)]];
     }
 }
 
@@ -92,20 +107,15 @@ pub fn place(address: &[u8], port: &[u8]) -> Option<SocketAddr> {
 
 /// Reads hex digits, two a byte, into `bytes`.
 pub fn read_hex(text: &[u8], bytes: &mut Vec<u8>) -> Option<()> {
-    bytes.clear();
-    let (pairs, rest) = text.as_chunks::<2>();
-    for [high, low] in pairs {
-        bytes.push(digit(*high)? << 4 | digit(*low)?);
+    let (pairs, rest) = text.as_chunks();
+    bytes.resize(pairs.len(), 0);
+    let mut seen = 0;
+    for (byte, [high, low]) in bytes.iter_mut().zip(pairs) {
+        let (high, low) = (VALUES[usize::from(*high)], VALUES[usize::from(*low)]);
+        seen |= high | low;
+        *byte = high << 4 | low & 15;
     }
-    rest.is_empty().then_some(())
-}
-
-fn digit(character: u8) -> Option<u8> {
-    match character {
-        b'0'..=b'9' => Some(character - b'0'),
-        b'a'..=b'f' => Some(character - b'a' + 10),
-        _ => None,
-    }
+    (seen < NONE && rest.is_empty()).then_some(())
 }
 
 #[cfg(test)]
