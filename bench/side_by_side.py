@@ -6,7 +6,8 @@
 Each round takes every case (160 and 1,200 bytes, up and down, 1 and 64 allocations) through the three relays in turn. The relay runs on
 one core and the load on the other, as fast as it can, so that the relay is saturated. What is told is the CPU time that the kernel counts
 for the relay's threads (/proc/PID/task/*/schedstat), divided by the packets that it passed on: other load on the machine takes the
-relay's time away, but is not counted as its own. Prints a table for docs/PERFORMANCE.md.
+relay's time away, but is not counted as its own. Prints a table for docs/PERFORMANCE.md, with minimum / median over the rounds; a ratio
+is of two runs of the same round.
 """
 import collections
 import os
@@ -106,8 +107,8 @@ def row(case, found):
     for cost in costs.values():
         cells.append(f"{min(cost):,.0f} / {statistics.median(cost):,.0f}")
     for other in ("bare", "coturn"):
-        best, middle = (of(costs["relayd"]) / of(costs[other]) for of in (min, statistics.median))
-        cells.append(f"{best:.1f} / {middle:.1f}")
+        ratios = [ours / theirs for ours, theirs in zip(costs["relayd"], costs[other])]
+        cells.append(f"{min(ratios):.1f} / {statistics.median(ratios):.1f}")
     for samples in found.values():
         sent, passed = sum(sample.sent for sample in samples), sum(sample.passed for sample in samples)
         cells.append(f"{100 * (sent - passed) / sent:.0f}%")

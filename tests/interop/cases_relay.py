@@ -1,4 +1,5 @@
 """The relay's edges on real sockets, by the small client in turn.py."""
+import random
 import socket
 import time
 
@@ -87,6 +88,41 @@ def case_empty_datagram(lab):
         client.send(peer.getsockname(), b"still there")
         assert peer.recv(65536) == b"still there"
         assert sum(line.endswith("dropped") for line in relayd.log()) == 6
+
+
+def spoiled(chance):
+    """A request or Send with up to three bytes changed, cut or made longer; or bytes without any sense."""
+    if chance.random() < 0.3:
+        return chance.randbytes(chance.randrange(200))
+    kind = chance.choice((turn.ALLOCATE, turn.REFRESH, turn.PERMIT, turn.BIND, turn.SEND))
+    attributes = [turn.attribute(turn.TRANSPORT, bytes([17, 0, 0, 0])), turn.attribute(turn.PEER, turn.xor_address(PEER, 5000)),
+                  turn.attribute(turn.CHANNEL_NUMBER, bytes([0x40, 0, 0, 0])), turn.attribute(turn.DATA_ATTR, b"x" * chance.randrange(40))]
+    raw = bytearray(turn.message(kind, chance.randbytes(12), chance.sample(attributes, chance.randrange(5))))
+    for _ in range(chance.randrange(4)):
+        raw[chance.randrange(len(raw))] = chance.randrange(256)
+    return bytes(raw)[:chance.choice((len(raw), len(raw), chance.randrange(len(raw))))] + b"y" * chance.choice((0, 0, 0, 1, 2))
+
+
+def case_noise(lab):
+    "3,000 spoiled datagrams at the server and the relay ports: relayd goes on, and every one has its line in the log"
+    chance = random.Random(8656)
+    with lab.relayd() as relayd:
+        client, peer = ready(lab)
+        noisy = [lab.client(), lab.client(SERVER6)]
+        for step in range(1500):
+            noisy[step % 2].sock.send(spoiled(chance))
+            peer.sendto(spoiled(chance), (SERVER, chance.choice(RELAY_PORTS)))
+            if step % 25 == 0:
+                client.refresh(600)
+        client.send(peer.getsockname(), b"still there")
+        assert peer.recv(65536) == b"still there"
+        ports = [str(noise.sock.getsockname()[1]) for noise in noisy]
+        words = [(line, line.split()) for line in relayd.log()]
+        assert sum(word[1] == "peer" for _, word in words) == 1500
+        from_noisy = [line for line, word in words if word[1] == "client" and word[2].rsplit(":", 1)[1] in ports]
+        assert len(from_noisy) == 1500, len(from_noisy)
+        for kind in ("dropped", "Allocate success", "error 400", "error 420", "error 437"):
+            assert any(kind in line for line in from_noisy), kind
 
 
 def case_1500_bytes(lab):
@@ -228,5 +264,5 @@ def case_allocation_lapses(lab):
         assert len(relayd.listing()) == 2
 
 
-CASES = [case_send_and_data, case_two_clients, case_zero_length, case_empty_datagram, case_1500_bytes, case_vanished_client, case_64_allocations,
+CASES = [case_send_and_data, case_two_clients, case_zero_length, case_empty_datagram, case_noise, case_1500_bytes, case_vanished_client, case_64_allocations,
          case_ports_at_random, case_port_scan, case_permission_lapses, case_allocation_lapses]

@@ -14,9 +14,8 @@ import turn
 
 ROOT = pathlib.Path(__file__).resolve().parents[2]
 HERE = pathlib.Path(__file__).resolve().parent
-RELAYD = pathlib.Path(os.environ.get("RELAYD", ROOT / "host/relayd/target/release/relayd"))
-CALLS = pathlib.Path(os.environ.get("CALLS", "target/bin/calls"))
-CALLS = CALLS if CALLS.is_absolute() else ROOT / CALLS
+RELAYD = ROOT / os.environ.get("RELAYD", "host/relayd/target/release/relayd")
+CALLS = ROOT / os.environ.get("CALLS", "target/bin/calls")
 
 SERVER, SERVER6, PORT = "203.0.113.5", "fd00:51::1", 3478
 CLIENT, CLIENT6 = "198.51.100.7", "fd00:51::7"
