@@ -1,1 +1,4 @@
 pub mod Written
+pub mod Read
+pub mod Run
+pub mod Rows

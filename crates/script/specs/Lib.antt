@@ -1,1 +1,4 @@
 pub mod Answers
+pub mod Fields
+pub mod Lines
+pub mod Run

@@ -71,8 +71,8 @@ fn put_address(out: &mut [u8], address: Address) -> usize
 
 // Bytes in hex, and the end of the line.
 fn put_hex(out: &mut [u8], sent: &[u8]) -> usize
-    requires { ⌜ (length (now sent) ≤ 1536) × (3073 ≤ length (now out)) ⌝ }
-    ensures { λ r. ⌜ (Sent (hexBytes (now (sent .entry)) ++ 10 ∷ []) (now (out .entry)) (now (out .exit)) r) × (r ≤ 3073) ⌝ }
+    requires { ⌜ (length (now sent) ≤ 1600) × (3201 ≤ length (now out)) ⌝ }
+    ensures { λ r. ⌜ (Sent (hexBytes (now (sent .entry)) ++ 10 ∷ []) (now (out .entry)) (now (out .exit)) r) × (r ≤ 3201) ⌝ }
 {
     put_hex_bytes(out, sent);
     let end = 2 * sent.len();
@@ -82,7 +82,7 @@ fn put_hex(out: &mut [u8], sent: &[u8]) -> usize
 
 // The rest of a line, from the address to which the bytes go.
 fn put_sent(out: &mut [u8], peer: Peer, sent: &[u8]) -> usize
-    requires { ⌜ (length (now sent) ≤ 1536) × (4000 ≤ length (now out)) ⌝ }
+    requires { ⌜ (length (now sent) ≤ 1600) × (4000 ≤ length (now out)) ⌝ }
     ensures { λ r. ⌜ (Sent (line (sentTo peer (now (sent .entry)))) (now (out .entry)) (now (out .exit)) r) × (r ≤ 4000) ⌝ }
 {
     let address = peer.address;
@@ -92,7 +92,7 @@ fn put_sent(out: &mut [u8], peer: Peer, sent: &[u8]) -> usize
 }
 
 fn put_to_peer(out: &mut [u8], port: u16, peer: Peer, sent: &[u8]) -> usize
-    requires { ⌜ (length (now sent) ≤ 1536) × (4096 ≤ length (now out)) ⌝ }
+    requires { ⌜ (length (now sent) ≤ 1600) × (4096 ≤ length (now out)) ⌝ }
     ensures { λ r. ⌜ Sent (line ((70 ∷ []) ∷ decimal port ∷ sentTo peer (now (sent .entry)))) (now (out .entry)) (now (out .exit)) r ⌝ }
 {
     put_letter(out, 70, TAB);
@@ -102,7 +102,7 @@ fn put_to_peer(out: &mut [u8], port: u16, peer: Peer, sent: &[u8]) -> usize
 
 // The line of an outcome that sends these bytes; how many bytes it has.
 pub fn put_answer(output: &mut [u8], outcome: Outcome, sent: &[u8]) -> usize
-    requires { ⌜ (length (now sent) ≤ 1536) × (4096 ≤ length (now output)) ⌝ }
+    requires { ⌜ (length (now sent) ≤ 1600) × (4096 ≤ length (now output)) ⌝ }
     ensures { λ r. ⌜ Sent (answerOf outcome (now (sent .entry))) (now (output .entry)) (now (output .exit)) r ⌝ }
 {
     match outcome {
