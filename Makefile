@@ -8,8 +8,8 @@ test: relayd-test
 	rt ci
 
 run:
-	rt check sample
-	target/bin/sample
+	rt check calls
+	target/bin/calls < crates/calls/stdin
 
 fmt:
 	rt fmt
