@@ -1,12 +1,12 @@
 #!/usr/bin/env python3
-# Writes the skeleton of a walk by hand of one function, from its MIR:
-#     rt mir CRATE | python3 walkgen.py CRATE FN NAME,NAME.. > crates/CRATE/proofs/FN/Proof.antt
-# The names are the parameters', in order. What only the author knows is left as `?`: what each callee ensures (its Φ), what its `requires` asks,
-# the range of a sum, and at the end what the function ensures. Rows of structs and enums (`slot-row`, `slot-typed` for `Slot`) are cited from proofs/Slots.antt.
+# Writes the skeleton of a walk by hand of one function, from its MIR, where the repository's root is:
+#     rt mir CRATE | python3 tools/walkgen.py CRATE FN NAME,NAME.. slots > crates/CRATE/proofs/FN/Proof.antt
+# The names are the parameters', in order; the last word is the crate that has Walk, Lends and Pre. What only the author knows is left as `?`: what
+# each callee ensures (its Φ), what its `requires` asks, the range of a sum, and at the end what the function ensures. Rows of structs and enums
+# (`slot-row`, `slot-typed` for `Slot`) are cited from the proofs/Rows.antt that has them.
 # It knows: slices and `&mut` numbers as parameters, calls of functions of one slice and plain data or of plain data alone, stores to and loads from
 # a `&mut` number, fields, sums and tests of numbers, `if c { .. return }`, and a `while` whose last statement is an assignment: there the invariant, the
 # measure's fall and what is known at the start are left too. Anything else is printed as a comment to be walked by hand.
-# A function that calls itself: see proofs/+scan_from/Proof.antt, which was made of this print.
 import sys, re
 t="("+sys.stdin.read()+")"; pos=0
 def parse():
@@ -645,10 +645,15 @@ P_=lambda c: 'Rattle.%s.proofs.'%c if c==crate else 'Rattle.%s.proofs.
 S_=lambda c: 'Rattle.%s.specs.'%c if c==crate else 'Rattle.%s.specs.'%c
 pf=P_(crate)
 ln=[n for n in dict.fromkeys(lendnames) if n in toks]
-h=['-- `%s::%s` meets its contract: a walk of its MIR, by hand.'%(crate,fn),'-- Assumes nothing.','use %sPre.{%s}'%(P_(kit),', '.join(pre)),'use %sWalk.{%s}'%(P_(kit),', '.join(wk))]+(['use %sLends.{%s}'%(P_(kit),', '.join(ln))] if ln else [])
+import glob
+def rows_of(x,own):
+    # the crate whose proofs/Rows.antt has the row: this one, else whichever has it, else the type's own
+    has=[p.split('/')[1] for p in sorted(glob.glob('crates/*/proofs/Rows.antt')) if re.search(r'(?m)^abbrev pub %s-row :'%re.escape(x),open(p).read())]
+    return crate if crate in has else has[0] if has else own
+h=['-- `%s::%s` meets its contract: a walk of its MIR, by hand.'%(crate,fn),'use %sPre.{%s}'%(P_(kit),', '.join(pre)),'use %sWalk.{%s}'%(P_(kit),', '.join(wk))]+(['use %sLends.{%s}'%(P_(kit),', '.join(ln))] if ln else [])
 for n in nt:
     x=K(n.lower()); w=[y for y in (x+'-row',x+'-typed',x+'-cases') if y in toks]
-    if w: h+=['use %sSlots.{%s}'%(P_(home[n]),', '.join(w))]
+    if w: h+=['use %sRows.{%s}'%(P_(rows_of(x,home[n])),', '.join(w))]
     h+=['use %sdeclared.%s.{%s}'%(S_(home[n]),n,n),'use %s%s as %s-t'%(P_(home[n]),n,n)]+(['use %s%s.Laws as %s-l'%(P_(home[n]),n,n)] if haslets[0] or haslaws[0] else [])
 for f in callees: c=fc[f]; h+=['use %s%s as %s'%(P_(c),f,K(f)),'use %s%s.Symbol as %s-def'%(P_(c),f,K(f)),'use %s%s.Symbol.{name as #%s·%s}'%(P_(c),f,c,K(f)),'use %s%s.Met as %s-thm'%(P_(c),f,K(f))]
 h+=['use %s%s.Key.{name as #%s·%s}'%(pf,fn,crate,fk),'use %s%s as %s'%(pf,fn,fk),'use %s%s.Statement as stated'%(pf,fn),'use %s%s.Code as code'%(pf,fn),'','']
