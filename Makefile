@@ -1,15 +1,30 @@
-# make test: all checks. make run: prove, build and run the main program. make interop: real clients through the daemon.
-.PHONY: test run fmt relayd relayd-test calls interop
+# make run: prove and build calls, and show it at work. make test: all checks. make fuzz N=..: calls against the model, with new seeds.
+# make bench: instructions a line. make interop: real clients through the daemon.
+.PHONY: test run fuzz bench fmt relayd relayd-test calls interop
 
 CALLS ?= target/bin/calls
+N ?= 100
 
 test: relayd-test
 	rt fmt --check
-	rt ci
+	tests/all
 
 run:
 	rt check calls
-	target/bin/calls < crates/calls/stdin
+	@echo
+	@echo "The calls of document 01's sample: a client allocates and permits a peer, which then sends twice."
+	@cat crates/calls/stdin
+	@echo
+	@echo "What target/bin/calls answers: S goes to the client (two successes, and the peer's bytes in a Data indication), D is dropped,"
+	@echo "since the permission is over at 1310. At the end the listing: A is the allocation that is still live."
+	@target/bin/calls < crates/calls/stdin
+
+# N scripts of 200 lines in each profile; prints the seeds, and the seed of what differs.
+fuzz: $(CALLS)
+	@CALLS=$(CALLS) tests/calls/compare --scripts $(N) --lines 200 --seed new
+
+bench: $(CALLS)
+	@CALLS=$(CALLS) bench/instructions
 
 fmt:
 	rt fmt
@@ -23,7 +38,7 @@ relayd-test:
 relayd:
 	cd host/relayd && cargo build --release --offline --quiet
 
-# The proved program that relayd drives.
+# The proved program, which relayd drives.
 calls: $(CALLS)
 target/bin/calls:
 	rt check calls
