@@ -7,7 +7,6 @@ import sys
 ROOT = pathlib.Path(__file__).resolve().parents[2]
 SAMPLE = ROOT / "crates/calls"
 
-sys.dont_write_bytecode = True
 sys.path.insert(0, str(ROOT / "tests/model"))
 
 

@@ -6,6 +6,7 @@ import os
 import sys
 import time
 
+sys.dont_write_bytecode = True
 import program
 import calls as model
 import relay
@@ -35,7 +36,7 @@ def spoil_rules():
         relay.Slot.live = lambda self, t: t <= self.expiry
     elif FAULT == "a Send extends its permission":
         rule(relay.Relay, "send", extends)
-    elif FAULT == "channel 0x5000 is taken":
+    elif FAULT == "channel 0x4FFF is never live":
         relay.Channel.live = lambda self, t: t < self.expiry and 0x4000 <= self.number <= 0x4FFE
     elif FAULT == "a lifetime of 3,601 seconds is granted":
         relay.granted_lifetime = lambda value, refresh: 600 if value is None else value if value == 3601 or refresh and value == 0 \
