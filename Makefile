@@ -7,6 +7,7 @@ N ?= 100
 
 test: relayd-test
 	rt fmt --check
+	tools/check-promises
 	tests/all
 
 run:
