@@ -1,6 +1,6 @@
 # make run: prove and build calls, and show it at work. make test: all checks. make fuzz N=..: calls against the model, with new seeds.
-# make bench: instructions a line. make interop: real clients through the daemon.
-.PHONY: test run fuzz bench fmt relayd relayd-test calls interop
+# make edits: the edits that the gate leaves out. make bench: instructions a line. make interop: real clients through the daemon.
+.PHONY: test run edits fuzz bench fmt relayd relayd-test calls interop
 
 CALLS ?= target/bin/calls
 N ?= 100
@@ -19,6 +19,10 @@ run:
 	@echo "What target/bin/calls answers: S goes to the client (two successes, and the peer's bytes in a Data indication), D is dropped,"
 	@echo "since the permission is over at 1310. At the end the listing: A is the allocation that is still live."
 	@target/bin/calls < crates/calls/stdin
+
+# The edits that the gate leaves out: the prover must refuse them too.
+edits:
+	tests/edits/try
 
 # N scripts of 200 lines in each profile; prints the seeds, and the seed of what differs.
 fuzz: $(CALLS)
