@@ -35,7 +35,7 @@ pub struct Setting {
     pub datagram: usize,
 }
 
-pub fn usual() -> Setting {
+pub(crate) fn usual() -> Setting {
     Setting {
         reply: 1536,
         slots: 64,
@@ -45,7 +45,7 @@ pub fn usual() -> Setting {
     }
 }
 
-pub fn read_setting(line: &[u8]) -> Setting {
+pub(crate) fn read_setting(line: &[u8]) -> Setting {
     Setting {
         reply: number(line, 1) as usize,
         slots: number(line, 2) as usize,
@@ -56,7 +56,7 @@ pub fn read_setting(line: &[u8]) -> Setting {
 }
 
 // The name of a case, its first field.
-pub fn write_name(line: &[u8]) {
+pub(crate) fn write_name(line: &[u8]) {
     let from = field_start(line, 1);
     let to = stop(line, from, TAB);
     write(&line[from..to]);
@@ -73,7 +73,7 @@ fn is_named(line: &[u8]) -> bool {
 pub const UNTOUCHED: u8 = 0xaa;
 
 // Whether the reply is as it was from that place on.
-pub fn is_untouched(reply: &[u8], from: usize) -> bool {
+pub(crate) fn is_untouched(reply: &[u8], from: usize) -> bool {
     for i in from..reply.len() {
         if reply[i] != UNTOUCHED {
             return false;
@@ -152,7 +152,7 @@ fn called(held: Held, setting: Setting, call: Call, bytes: &[u8], len: usize, li
 }
 
 // As many bytes as a field has, or as is asked for.
-pub fn length_of(field: usize, asked: usize) -> usize {
+pub(crate) fn length_of(field: usize, asked: usize) -> usize {
     if asked == 0 {
         return field;
     }
@@ -167,7 +167,7 @@ fn carried(held: Held, setting: Setting, call: Call, line: &[u8], k: usize) -> H
     called(held, setting, call, &datagram, len, line)
 }
 
-pub fn from_client(held: Held, setting: Setting, line: &[u8]) -> Held {
+pub(crate) fn from_client(held: Held, setting: Setting, line: &[u8]) -> Held {
     let server = Peer {
         address: Address::V4(0xcb007105),
         port: setting.server,
@@ -184,7 +184,7 @@ pub fn from_client(held: Held, setting: Setting, line: &[u8]) -> Held {
     carried(held, setting, call, line, 7)
 }
 
-pub fn from_peer(held: Held, setting: Setting, line: &[u8]) -> Held {
+pub(crate) fn from_peer(held: Held, setting: Setting, line: &[u8]) -> Held {
     let id = TransactionId {
         high: 0,
         middle: 0,

@@ -13,7 +13,7 @@ pub const TAB: u8 = 9;
 pub const NEWLINE: u8 = 10;
 
 // The first place from there on with that byte, or the end.
-pub fn stop(text: &[u8], from: usize, mark: u8) -> usize
+pub(crate) fn stop(text: &[u8], from: usize, mark: u8) -> usize
     requires { ⌜ from ≤ length (now text) ⌝ }
     ensures { λ r. ⌜ (from ≤ r) × (r ≤ length (now (text .entry))) ⌝ }
 {
@@ -38,7 +38,7 @@ fn next_field(line: &[u8], from: usize) -> usize
 }
 
 // Where the field with that number starts; the letter of the line is field 0.
-pub fn field_start(line: &[u8], k: usize) -> usize
+pub(crate) fn field_start(line: &[u8], k: usize) -> usize
     ensures { λ r. ⌜ r ≤ length (now (line .entry)) ⌝ }
 {
     let mut from: usize = 0;
@@ -49,7 +49,7 @@ pub fn field_start(line: &[u8], k: usize) -> usize
 }
 
 // The letter that a line begins with.
-pub fn letter(line: &[u8]) -> u8 {
+pub(crate) fn letter(line: &[u8]) -> u8 {
     if line.len() == 0 {
         return 0;
     }
@@ -63,21 +63,21 @@ fn value(read: Parsed) -> u64 {
     }
 }
 
-pub fn number(line: &[u8], k: usize) -> u64 {
+pub(crate) fn number(line: &[u8], k: usize) -> u64 {
     let from = field_start(line, k);
     let to = stop(line, from, TAB);
     value(read_decimal(line, from, to))
 }
 
-pub fn number_u32(line: &[u8], k: usize) -> u32 {
+pub(crate) fn number_u32(line: &[u8], k: usize) -> u32 {
     (number(line, k) % 4294967296) as u32
 }
 
-pub fn number_u16(line: &[u8], k: usize) -> u16 {
+pub(crate) fn number_u16(line: &[u8], k: usize) -> u16 {
     (number(line, k) % 65536) as u16
 }
 
-pub fn number_u8(line: &[u8], k: usize) -> u8 {
+pub(crate) fn number_u8(line: &[u8], k: usize) -> u8 {
     (number(line, k) % 256) as u8
 }
 
@@ -91,7 +91,7 @@ fn word(line: &[u8], from: usize) -> u32
 }
 
 // An address of 8 or 32 hex digits.
-pub fn address(line: &[u8], k: usize) -> Address {
+pub(crate) fn address(line: &[u8], k: usize) -> Address {
     let from = field_start(line, k);
     let to = stop(line, from, TAB);
     if to - from < 32 {
@@ -106,14 +106,14 @@ pub fn address(line: &[u8], k: usize) -> Address {
 }
 
 // The address in one field and the port in another.
-pub fn peer(line: &[u8], address_field: usize, port_field: usize) -> Peer {
+pub(crate) fn peer(line: &[u8], address_field: usize, port_field: usize) -> Peer {
     let address = address(line, address_field);
     let port = number_u16(line, port_field);
     Peer { address, port }
 }
 
 // The bytes of a field in hex, put at the front; how many they are.
-pub fn bytes(line: &[u8], k: usize, out: &mut [u8]) -> usize {
+pub(crate) fn bytes(line: &[u8], k: usize, out: &mut [u8]) -> usize {
     let from = field_start(line, k);
     let to = stop(line, from, TAB);
     if out.len() < (to - from) / 2 + 1 {

@@ -11,7 +11,7 @@ ghost use lib.ListN.{length};
 ghost use Rattle.listing.specs.Listing.{Lists};
 ghost use Rattle.relay.specs.Step.{act, outcomeOf};
 
-pub fn sixty_three(
+pub(crate) fn sixty_three(
     slots: [Slot; 63],
     clock: u64,
     call: Call,
@@ -25,7 +25,7 @@ pub fn sixty_three(
     relay_datagram(&mut table, &mut time, call, datagram, reply)
 }
 
-pub fn sixty_five(
+pub(crate) fn sixty_five(
     slots: [Slot; 65],
     clock: u64,
     call: Call,
@@ -39,14 +39,14 @@ pub fn sixty_five(
     relay_datagram(&mut table, &mut time, call, datagram, reply)
 }
 
-pub fn list_held(slots: [Slot; 64], clock: u64, output: &mut [u8]) -> Listed
+pub(crate) fn list_held(slots: [Slot; 64], clock: u64, output: &mut [u8]) -> Listed
     ensures { λ r. ⌜ Lists clock slots (now (output .entry)) (now (output .exit)) r ⌝ }
 {
     let table = slots;
     list(&table, clock, output)
 }
 
-pub fn list_sixty_three(slots: [Slot; 63], clock: u64, output: &mut [u8]) -> Listed
+pub(crate) fn list_sixty_three(slots: [Slot; 63], clock: u64, output: &mut [u8]) -> Listed
     ensures { λ r. ⌜ Lists clock slots (now (output .entry)) (now (output .exit)) r ⌝ }
 {
     let table = slots;

@@ -52,7 +52,7 @@ fn write_listed(listed: Listed, output: &[u8]) {
     }
 }
 
-pub fn show(held: Held, slots: usize, line: &[u8]) {
+pub(crate) fn show(held: Held, slots: usize, line: &[u8]) {
     let mut output = [UNTOUCHED; 4096];
     let room = number(line, 2) as usize;
     let listed = within(held, slots, &mut output, room);

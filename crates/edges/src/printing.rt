@@ -9,11 +9,11 @@ use relay::sending::what_to_send;
 use rules::answer::Outcome;
 use stun::kinds::Method;
 
-pub fn write(text: &[u8]) {
+pub(crate) fn write(text: &[u8]) {
     io::write_all(STDOUT_FILENO, text);
 }
 
-pub fn write_number(text: &[u8], n: u64) {
+pub(crate) fn write_number(text: &[u8], n: u64) {
     write(text);
     io::print_decimal(STDOUT_FILENO, n);
 }
@@ -22,7 +22,7 @@ fn write_word(n: u32) {
     io::print_hex(STDOUT_FILENO, n as u64, 8);
 }
 
-pub fn write_address(address: Address) {
+pub(crate) fn write_address(address: Address) {
     match address {
         Address::V4(a) => {
             write_word(a);
@@ -36,7 +36,7 @@ pub fn write_address(address: Address) {
     }
 }
 
-pub fn write_peer(text: &[u8], peer: Peer) {
+pub(crate) fn write_peer(text: &[u8], peer: Peer) {
     write(text);
     let address = peer.address;
     write_address(address);
@@ -47,14 +47,14 @@ fn byte(b: u8) -> u64 {
     b as u64
 }
 
-pub fn write_hex(s: &[u8]) {
+pub(crate) fn write_hex(s: &[u8]) {
     for i in 0..s.len() {
         io::print_hex(STDOUT_FILENO, byte(s[i]), 2);
     }
 }
 
 // How many bytes there are, and the bytes: of more than eight the first two and the last two.
-pub fn write_data(s: &[u8]) {
+pub(crate) fn write_data(s: &[u8]) {
     let len = s.len();
     write_number(b"", len as u64);
     write(b" bytes");
@@ -114,7 +114,7 @@ fn write_channel_data(number: u16, data: &[u8]) {
 }
 
 // What the clients' reader says of the bytes.
-pub fn write_message(s: &[u8]) {
+pub(crate) fn write_message(s: &[u8]) {
     let read = read_message(s);
     let types = read.types;
     let message = read.message;
@@ -161,7 +161,7 @@ pub fn write_message(s: &[u8]) {
 }
 
 // `R` a refusal, `D` a drop, `S` what goes to a client, `F` what goes to a peer.
-pub fn write_outcome<'a>(outcome: Outcome, datagram: &'a [u8], reply: &'a [u8]) {
+pub(crate) fn write_outcome<'a>(outcome: Outcome, datagram: &'a [u8], reply: &'a [u8]) {
     match outcome {
         Outcome::Refused(number) => write_number(b"R ", number as u64),
         Outcome::Dropped => write(b"D"),
@@ -186,7 +186,7 @@ pub fn write_outcome<'a>(outcome: Outcome, datagram: &'a [u8], reply: &'a [u8]) 
 }
 
 // A line of the cases, as it stands.
-pub fn write_line(line: &[u8]) {
+pub(crate) fn write_line(line: &[u8]) {
     write(line);
     write(b"\n");
 }

@@ -83,7 +83,7 @@ fn message(line: &[u8]) {
 }
 
 // What a line shows that needs no table; `V` the vectors, and a heading as it stands.
-pub fn show(letter: u8, line: &[u8]) {
+pub(crate) fn show(letter: u8, line: &[u8]) {
     match letter {
         b'R' => refused(line),
         b'S' => to_client(line),

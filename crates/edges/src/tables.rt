@@ -15,7 +15,7 @@ use table::Permission;
 use table::Slot;
 use table::fresh_slot;
 
-pub fn empty() -> Held {
+pub(crate) fn empty() -> Held {
     let slots = [fresh_slot(); 64];
     let outcome = Outcome::Dropped;
     Held {
@@ -117,7 +117,7 @@ fn channel(held: Held, line: &[u8]) -> Held {
 }
 
 // The table that a line makes: `N` an empty one, `T` with that clock, `A`, `E` and `C` with an allocation, a permission, a channel.
-pub fn made(held: Held, letter: u8, line: &[u8]) -> Held {
+pub(crate) fn made(held: Held, letter: u8, line: &[u8]) -> Held {
     match letter {
         b'N' => empty(),
         b'T' => at_clock(held, number(line, 1)),

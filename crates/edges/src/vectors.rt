@@ -53,7 +53,7 @@ fn ipv6() {
     write(b"\n");
 }
 
-pub fn vectors() {
+pub(crate) fn vectors() {
     ipv4();
     ipv6();
 }
