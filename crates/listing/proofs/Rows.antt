@@ -7,7 +7,7 @@ use prog.Wp.{Heap}
 use ghost.Atoms.{Atoms}
 use denote.Laws.{Is}
 use denote.Enum.Laws as EL
-use Rattle.slots.proofs.Walk.{Row, Typed, enum-row}
+use Rattle.walk.proofs.Walk.{Row, Typed, enum-row}
 use Rattle.listing.specs.declared.Listed.the-variants.{Refused, Length}
 use Rattle.listing.proofs.Listed as Listed-t
 use Rattle.listing.proofs.Listed.Laws as Listed-l

@@ -10,7 +10,7 @@ use denote.Array.{Array, arrayVal}
 use denote.Laws.{Is}
 use denote.Enum.Laws as EL
 use denote.Struct.Laws as SL
-use Rattle.slots.proofs.Walk.{Row, Typed, struct-row, enum-row, array-row, array-into, map-twice}
+use Rattle.walk.proofs.Walk.{Row, Typed, struct-row, enum-row, array-row, array-into, map-twice}
 use Rattle.slots.proofs.Rows.{slot-row}
 use Rattle.table.specs.declared.Slot.{Slot}
 use Rattle.table.proofs.Slot as Slot-t

@@ -11,7 +11,7 @@ use denote.Laws.{Is, Copy}
 use denote.Slice.{Room}
 use denote.Enum.Laws as EL
 use denote.Struct.Laws as SL
-use Rattle.slots.proofs.Walk.{Row, Typed, struct-row, enum-row}
+use Rattle.walk.proofs.Walk.{Row, Typed, struct-row, enum-row}
 use Rattle.address.proofs.FiveTuple as FiveTuple-t
 use Rattle.address.proofs.FiveTuple.Laws as FiveTuple-l
 use Rattle.slots.proofs.surveys.Survey as Survey-t

@@ -1,10 +1,10 @@
--- `calls::answer_next` meets its contract: a walk of its MIR, by hand.
-use Rattle.slots.proofs.Pre.{ap, sym, subst, ℕ, _-_, ftrue, flft, SProp, ent, emp, via, fst∗, id⊢, Lfts, Shares, Fun, givenOf, tables, u64, u8, yes, Is, owns, MutRef, ptr-vals, mut-tells, plain, sliceVal, MutSlice, Room, slice-vals, mut-slice-tells, owned, nothing, onEntry, Args, Vals, Triple, cited, says, needs, Stays, stay-slice, stay-none, walkOf, goes-slice, goes-none, ends-at, walked, stay-ref, goes-ref, Atoms, fullShare, URA, length, set, getD, [], _∷_, List, refl, _≡_, _∙_, named, w64, Val, vint, vptr, arith, Memory, Routine, Heap, Calls, Loops, WpFn, FmC, Given, feqL, ‵, _⊛_, ⋆, _$_, _∵_, !, qed, by, move, drop, split, join, fsplit, fjoin, suffices, frame, done, keep, Item, whole, sub, look-in, agg, look, un, init, stop, hop, fld, from, load, of-opd, assigns, returns, enter, alloc1, alloc0, params1, pass1, pass0, free0, and-then, no-more, land, addr, returns-within}
-use Rattle.slots.proofs.Walk.{says-none, tells-none, uint-row, bool-row, ref, shown, asks-none, Of, tokens, calls-any, calls-value, out, out-room, guards, tells-none, says-none, framed-calls, finish}
-use Rattle.slots.proofs.Lends.{lend-slice, back-slice, lend-ref, back-ref, show-slice, hide-slice, calls-lent, calls-shown}
+-- `calls::answer_next` meets its contract: a walk of its MIR, made by tools/rewalk.
+use Rattle.walk.proofs.Pre.{ℕ, _-_, ftrue, flft, SProp, ent, emp, via, fst∗, id⊢, Lfts, Shares, Fun, givenOf, tables, u64, u8, yes, Is, owns, MutRef, ptr-vals, mut-tells, plain, sliceVal, MutSlice, Room, slice-vals, mut-slice-tells, owned, nothing, onEntry, Args, Vals, Triple, cited, says, Stays, stay-slice, stay-none, walkOf, goes-slice, goes-none, ends-at, walked, stay-ref, goes-ref, Atoms, fullShare, URA, length, [], _∷_, List, refl, sym, _≡_, ap, subst, named, w64, Val, vint, vptr, Memory, Routine, Heap, Calls, Loops, WpFn, FmC, Given, feqL, ‵, _⊛_, ⋆, _$_, _∵_, !, qed, by, move, drop, split, join, fsplit, fjoin, suffices, frame, done, keep, Item, whole, sub, look-in, agg, look, un, init, stop, hop, fld, from, load, of-opd, assigns, returns, enter, alloc1, alloc0, params1, pass1, pass0, free0, and-then, no-more, land, addr, returns-within}
+use Rattle.walk.proofs.Walk.{uint-row, bool-row, ref, asks-none, Of, tokens, calls-any, calls-value, out, out-room, guards, tells-none, says-none, framed-calls, finish}
+use Rattle.walk.proofs.Lends.{lend-slice, back-slice, lend-ref, back-ref, show-slice, hide-slice, calls-lent, calls-shown}
+use Rattle.calls.proofs.Rows.{window-row, window-typed}
 use Rattle.table.specs.declared.Slot.{Slot}
 use Rattle.table.proofs.Slot as Slot-t
-use Rattle.calls.proofs.Rows.{window-row, window-typed}
 use Rattle.calls.specs.declared.Window.{Window}
 use Rattle.calls.proofs.Window as Window-t
 use Rattle.calls.proofs.next_line as next-line
@@ -56,7 +56,7 @@ module _ {M : Type 1} (𝓤 : URA M) (H : Heap 𝓤) (A : Atoms 𝓤) (W : Given
   last = a .1 .1 .1 .1 .0
 
   abbrev at : Vals answer-next.signature κs
-  at = (sliceVal (a .0 .ptr) (length slots) ∷ [], (vptr (a .1 .0 .ptr .0) (a .1 .0 .ptr .1) ∷ [], (sliceVal (a .1 .1 .0 .ptr) (length input) ∷ [], (sliceVal (a .1 .1 .1 .0 .ptr) (length output) ∷ [], (window-row .val (last) ∷ [], tt)))))
+  at = (sliceVal (a .0 .ptr) (length slots) ∷ [], (vptr (a .1 .0 .ptr .0) (a .1 .0 .ptr .1) ∷ [], (sliceVal (a .1 .1 .0 .ptr) (length input) ∷ [], (sliceVal (a .1 .1 .1 .0 .ptr) (length output) ∷ [], (window-row .val last ∷ [], tt)))))
 
   abbrev Own-slots : List Slot → Item 𝓤
   Own-slots v = ‵ (MutSlice (named 0) (κs .0) Slot-t.the-row .own (ref (a .0 .ptr .0) (a .0 .ptr .1) (a .0 .name) v) (sliceVal (a .0 .ptr) (length slots) ∷ []))
@@ -89,20 +89,20 @@ module _ {M : Type 1} (𝓤 : URA M) (H : Heap 𝓤) (A : Atoms 𝓤) (W : Given
   abbrev Said : Window → List Slot → ℕ → List ℕ → List ℕ → Type 0
   Said r z-slots z-clock z-input z-output = Unit {0}
 
-  exits : (r : Window) (z-slots : List Slot) (z-clock : ℕ) (z-input : List ℕ) (z-output : List ℕ) → Said r z-slots z-clock z-input z-output → length z-slots ≡ length slots → length z-input ≡ length input → length z-output ≡ length output → Is Window-t.the-row (r) (window-row .val (r) ∷ [])
-      → ent 𝓤 (⋆ 𝓤 H A (Own-slots z-slots ∷ t0 ∷ Own-clock z-clock ∷ t1 ∷ Own-input z-input ∷ t2 ∷ Own-output z-output ∷ t3 ∷ [])) (Post (window-row .val (r)))
+  exits : (r : Window) (z-slots : List Slot) (z-clock : ℕ) (z-input : List ℕ) (z-output : List ℕ) → Said r z-slots z-clock z-input z-output → length z-slots ≡ length slots → length z-input ≡ length input → length z-output ≡ length output → Is Window-t.the-row r (window-row .val r ∷ [])
+      → ent 𝓤 (⋆ 𝓤 H A (Own-slots z-slots ∷ t0 ∷ Own-clock z-clock ∷ t1 ∷ Own-input z-input ∷ t2 ∷ Own-output z-output ∷ t3 ∷ [])) (Post (window-row .val r))
   exits r z-slots z-clock z-input z-output e l-slots l-input l-output is =
       qed W (Own-slots z-slots ∷ t0 ∷ Own-clock z-clock ∷ t1 ∷ Own-input z-input ∷ t2 ∷ Own-output z-output ∷ t3 ∷ []) ∵
-      suffices ! _ (ends-at 𝓤 H A answer-next.ended stayed (answer-next.clauses 𝓤 H A mem run) W ((κs, qs, tt, a, at), tt) (window-row .val (r)) r (z-slots, (z-clock, (z-input, (z-output, (tt, tt))))) (l-slots, (tt, (l-input, (l-output, (tt, tt)))))) $ says-none ! $
+      suffices ! _ (ends-at 𝓤 H A answer-next.ended stayed (answer-next.clauses 𝓤 H A mem run) W ((κs, qs, tt, a, at), tt) (window-row .val r) r (z-slots, (z-clock, (z-input, (z-output, (tt, tt))))) (l-slots, (tt, (l-input, (l-output, (tt, tt)))))) $ says-none ! $
       nothing ! $ move ! (8 ∷ 0 ∷ []) $ join ! $ move ! (6 ∷ 0 ∷ []) $ join ! $ move ! (4 ∷ 0 ∷ []) $ join ! $ move ! (2 ∷ 0 ∷ []) $ join ! $ frame ! $
-      nothing ! $ owned ! Window-t.the-row (Is Window-t.the-row) ((window-row) .makes 𝓤 H A W) last _ is-last $ fjoin ! $ move ! (4 ∷ 0 ∷ []) $ fjoin ! $ move ! (3 ∷ 0 ∷ []) $ fjoin ! $ move ! (2 ∷ 0 ∷ []) $ fjoin ! $ move ! (1 ∷ 0 ∷ []) $ fjoin ! $ frame ! $ owned ! Window-t.the-row (Is Window-t.the-row) ((window-row) .makes 𝓤 H A W) r _ is $ done !
+      nothing ! $ owned ! Window-t.the-row (Is Window-t.the-row) (window-row .makes 𝓤 H A W) last _ is-last $ fjoin ! $ move ! (4 ∷ 0 ∷ []) $ fjoin ! $ move ! (3 ∷ 0 ∷ []) $ fjoin ! $ move ! (2 ∷ 0 ∷ []) $ fjoin ! $ move ! (1 ∷ 0 ∷ []) $ fjoin ! $ frame ! $ owned ! Window-t.the-row (Is Window-t.the-row) (window-row .makes 𝓤 H A W) r _ is $ done !
 
   module _ (C : Calls 𝓤 H) (Λ : Loops 𝓤 H) (fm : FmC 𝓤 H (W .laws) C) (known-next-line : Triple 𝓤 (C #calls·next-line) (Of 𝓤 H A next-line.ended (next-line.clauses 𝓤 H A mem run))) (known-is-line : Triple 𝓤 (C #calls·is-line) (Of 𝓤 H A is-line.ended (is-line.clauses 𝓤 H A mem run))) (known-line-start : Triple 𝓤 (C #calls·line-start) (Of 𝓤 H A line-start.ended (line-start.clauses 𝓤 H A mem run))) (known-line-end : Triple 𝓤 (C #calls·line-end) (Of 𝓤 H A line-end.ended (line-end.clauses 𝓤 H A mem run))) (known-run-line : Triple 𝓤 (C #script·run-line) (Of 𝓤 H A run-line.ended (run-line.clauses 𝓤 H A mem run))) (known-written : Triple 𝓤 (C #calls·written) (Of 𝓤 H A written.ended (written.clauses 𝓤 H A mem run))) where
-    walk : Room Slot-t.the-row (length slots) → Room u8 (length input) → Room u8 (length output) → ent 𝓤 (onEntry 𝓤 H A answer-next.signature κs qs a at) (WpFn 𝓤 H C Λ code.function (sliceVal (a .0 .ptr) (length slots) ∷ vptr (a .1 .0 .ptr .0) (a .1 .0 .ptr .1) ∷ sliceVal (a .1 .1 .0 .ptr) (length input) ∷ sliceVal (a .1 .1 .1 .0 .ptr) (length output) ∷ window-row .val (last) ∷ []) Post)
+    walk : Room Slot-t.the-row (length slots) → Room u8 (length input) → Room u8 (length output) → ent 𝓤 (onEntry 𝓤 H A answer-next.signature κs qs a at) (WpFn 𝓤 H C Λ code.function (sliceVal (a .0 .ptr) (length slots) ∷ vptr (a .1 .0 .ptr .0) (a .1 .0 .ptr .1) ∷ sliceVal (a .1 .1 .0 .ptr) (length input) ∷ sliceVal (a .1 .1 .1 .0 .ptr) (length output) ∷ window-row .val last ∷ []) Post)
     walk room-slots room-input room-output =
         qed W ((t0 ⊛ (t1 ⊛ (t2 ⊛ (t3 ⊛ ‵ ftrue)))) ∷ ‵ (owns (MutSlice (named 0) (κs .0) Slot-t.the-row ∷ MutRef (named 1) (κs .1 .0) u64 ∷ MutSlice (named 2) (κs .1 .1 .0) u8 ∷ MutSlice (named 3) (κs .1 .1 .1 .0) u8 ∷ Window-t.the-row ∷ []) a at) ∷ []) ∵
         split ! $ move ! (1 ∷ []) $ split ! $ move ! (1 ∷ []) $ split ! $ move ! (1 ∷ []) $ split ! $ move ! (5 ∷ []) $ fsplit ! $ move ! (1 ∷ []) $ fsplit ! $ move ! (1 ∷ []) $ fsplit ! $ move ! (1 ∷ []) $ fsplit ! $ move ! (1 ∷ []) $ fsplit ! $ drop ! $ keep ! (4 ∷ 9 ∷ 3 ∷ 8 ∷ 2 ∷ 7 ∷ 1 ∷ 5 ∷ []) $
-        enter ! C Λ code.function (sliceVal (a .0 .ptr) (length slots) ∷ vptr (a .1 .0 .ptr .0) (a .1 .0 .ptr .1) ∷ sliceVal (a .1 .1 .0 .ptr) (length input) ∷ sliceVal (a .1 .1 .1 .0 .ptr) (length output) ∷ window-row .val (last) ∷ []) _ $
+        enter ! C Λ code.function (sliceVal (a .0 .ptr) (length slots) ∷ vptr (a .1 .0 .ptr .0) (a .1 .0 .ptr .1) ∷ sliceVal (a .1 .1 .0 .ptr) (length input) ∷ sliceVal (a .1 .1 .1 .0 .ptr) (length output) ∷ window-row .val last ∷ []) _ $
         alloc1 ! (λ l₀. alloc1 ! (λ l₁. alloc1 ! (λ l₂. alloc1 ! (λ l₃. alloc1 ! (λ l₄. alloc1 ! (λ l₅. alloc1 ! (λ l₆. alloc1 ! (λ l₇. alloc1 ! (λ l₈. alloc1 ! (λ l₉. alloc1 ! (λ l₁₀. alloc1 ! (λ l₁₁. alloc1 ! (λ l₁₂. alloc1 ! (λ l₁₃. alloc1 ! (λ l₁₄. alloc1 ! (λ l₁₅. alloc1 ! (λ l₁₆. alloc1 ! (λ l₁₇. alloc1 ! (λ l₁₈. alloc1 ! (λ l₁₉. alloc1 ! (λ l₂₀. alloc1 ! (λ l₂₁. alloc1 ! (λ l₂₂. alloc0 ! $ params1 ! $
         pass1 ! (init ! 42 refl (tt, (tt, (record { fits = room-slots .0 }, tt)))) $ pass1 ! (init ! 40 refl (tt, tt)) $ pass1 ! (init ! 38 refl (tt, (tt, (record { fits = room-input .0 }, tt)))) $ pass1 ! (init ! 36 refl (tt, (tt, (record { fits = room-output .0 }, tt)))) $ pass1 ! (init ! 34 refl (window-typed 𝓤 H A W last is-last)) $ pass0 ! $
         -- the references and their tokens first: from here local k stands at 52 - 2 k
@@ -111,17 +111,17 @@ module _ {M : Type 1} (𝓤 : URA M) (H : Heap 𝓤) (A : Atoms 𝓤) (W : Given
         assigns ! (agg ! (and-then ! (load ! (from ! (stop !)) (look ! 36 refl)) (and-then ! (load ! (from ! (fld ! refl (stop !))) (look-in ! 46 (sub ! 1 refl (whole !)))) (no-more !)))) (from ! (stop !)) (init ! 34 refl (tt, (tt, (record { fits = room-input .0 }, tt)))) $
         -- `next_line`
         move ! (4 ∷ 5 ∷ []) $
-        calls-lent ! fm u8 (window-row) (next-line.clauses 𝓤 H A mem run) (λ r zs. Unit {0}) (named 2) (a .1 .1 .0 .ptr .0) (a .1 .1 .0 .ptr .1) (input) (sliceVal (a .1 .1 .0 .ptr) (length input)) (λ ν. (last, tt)) (λ ν. (window-row, tt)) (λ ν δ. tt) known-next-line (λ ν. (is-last, tt)) (λ ν δ. (asks-none 𝓤 H A)) (λ ν δ r ws. tells-none 𝓤)
-        (λ ν δ. (and-then ! (load ! (from ! (stop !)) (look ! 34 refl)) (and-then ! (load ! (from ! (stop !)) (look ! 42 refl)) (no-more !)))) (λ r6 zs6 l6 is6 e6. land ! (from ! (stop !)) (init ! 40 refl (window-typed 𝓤 H A W (r6) (is6))) $
+        calls-lent ! fm u8 window-row (next-line.clauses 𝓤 H A mem run) (λ r zs. Unit {0}) (named 2) (a .1 .1 .0 .ptr .0) (a .1 .1 .0 .ptr .1) input (sliceVal (a .1 .1 .0 .ptr) (length input)) (λ ν. (last, tt)) (λ ν. (window-row, tt)) (λ ν δ. tt) known-next-line (λ ν. (is-last, tt)) (λ ν δ. (asks-none 𝓤 H A)) (λ ν δ r ws. tells-none 𝓤)
+        (λ ν δ. (and-then ! (load ! (from ! (stop !)) (look ! 34 refl)) (and-then ! (load ! (from ! (stop !)) (look ! 42 refl)) (no-more !)))) (λ r-next-line zs-next-line l-next-line is-next-line e-next-line. land ! (from ! (stop !)) (init ! 40 refl (window-typed 𝓤 H A W r-next-line is-next-line)) $
         -- `is_line`
-        calls-value ! fm (bool-row) (is-line.clauses 𝓤 H A mem run) (λ r. Unit {0}) (window-row, tt) (r6, tt) tt known-is-line (is6, tt) (asks-none 𝓤 H A) (λ r ws. tells-none 𝓤)
-        (and-then ! (load ! (from ! (stop !)) (look ! 41 refl)) (no-more !)) (λ r10 is10 e10. land ! (from ! (stop !)) (init ! 32 refl (tt, tt)) $
+        calls-value ! fm bool-row (is-line.clauses 𝓤 H A mem run) (λ r. Unit {0}) (window-row, tt) (r-next-line, tt) tt known-is-line (is-next-line, tt) (asks-none 𝓤 H A) (λ r ws. tells-none 𝓤)
+        (and-then ! (load ! (from ! (stop !)) (look ! 41 refl)) (no-more !)) (λ r-is-line is-is-line e-is-line. land ! (from ! (stop !)) (init ! 32 refl (tt, tt)) $
         assigns ! (un ! (load ! (from ! (stop !)) (look ! 32 refl)) tt) (from ! (stop !)) (init ! 30 refl (tt, tt)) $
         guards ! (load ! (from ! (stop !)) (look ! 30 refl))
         (λ held.
-        assigns ! (of-opd ! (load ! (from ! (stop !)) (look ! 40 refl))) (from ! (stop !)) (init ! 52 refl (window-typed 𝓤 H A W (r6) (is6))) $
+        assigns ! (of-opd ! (load ! (from ! (stop !)) (look ! 40 refl))) (from ! (stop !)) (init ! 52 refl (window-typed 𝓤 H A W r-next-line is-next-line)) $
         returns-within ! Post refl (look ! 52 refl) $ out ! 52 refl refl $ out ! 50 refl refl $ out ! 48 refl refl $ out ! 46 refl refl $ out ! 44 refl refl $ out ! 42 refl refl $ out ! 40 refl refl $ out-room ! 38 refl refl $ out ! 36 refl refl $ out ! 34 refl refl $ out ! 32 refl refl $ out ! 30 refl refl $ out-room ! 28 refl refl $ out-room ! 26 refl refl $ out-room ! 24 refl refl $ out-room ! 22 refl refl $ out-room ! 20 refl refl $ out-room ! 18 refl refl $ out-room ! 16 refl refl $ out-room ! 14 refl refl $ out-room ! 12 refl refl $ out-room ! 10 refl refl $ out-room ! 8 refl refl $ free0 ! $
-        keep ! (2 ∷ 3 ∷ 4 ∷ 5 ∷ 0 ∷ 1 ∷ 6 ∷ 7 ∷ []) $ by ! (exits (r6) (slots) (now-clock) (zs6) (output) tt refl l6 refl is6))
+        keep ! (2 ∷ 3 ∷ 4 ∷ 5 ∷ 0 ∷ 1 ∷ 6 ∷ 7 ∷ []) $ by ! (exits r-next-line slots now-clock zs-next-line output tt refl l-next-line refl is-next-line))
         (λ failed.
         assigns ! (addr ! (from ! (fld ! refl (hop ! (look-in ! 50 (sub ! 0 refl (whole !))) (stop !))))) (from ! (stop !)) (init ! 28 refl (tt, tt)) $
         assigns ! (agg ! (and-then ! (load ! (from ! (stop !)) (look ! 28 refl)) (and-then ! (load ! (from ! (fld ! refl (stop !))) (look-in ! 50 (sub ! 1 refl (whole !)))) (no-more !)))) (from ! (stop !)) (init ! 26 refl (tt, (tt, (record { fits = room-slots .0 }, tt)))) $
@@ -129,30 +129,30 @@ module _ {M : Type 1} (𝓤 : URA M) (H : Heap 𝓤) (A : Atoms 𝓤) (W : Given
         assigns ! (addr ! (from ! (fld ! refl (hop ! (look-in ! 46 (sub ! 0 refl (whole !))) (stop !))))) (from ! (stop !)) (init ! 22 refl (tt, tt)) $
         assigns ! (agg ! (and-then ! (load ! (from ! (stop !)) (look ! 22 refl)) (and-then ! (load ! (from ! (fld ! refl (stop !))) (look-in ! 46 (sub ! 1 refl (whole !)))) (no-more !)))) (from ! (stop !)) (init ! 20 refl (tt, (tt, (record { fits = room-input .0 }, tt)))) $
         -- `line_start`
-        calls-value ! fm (uint-row w64) (line-start.clauses 𝓤 H A mem run) (λ r. Unit {0}) (window-row, tt) (r6, tt) tt known-line-start (is6, tt) (asks-none 𝓤 H A) (λ r ws. tells-none 𝓤)
-        (and-then ! (load ! (from ! (stop !)) (look ! 41 refl)) (no-more !)) (λ r17 is17 e17. land ! (from ! (stop !)) (init ! 18 refl (tt, record { fits = is17 .1 })) $
+        calls-value ! fm (uint-row w64) (line-start.clauses 𝓤 H A mem run) (λ r. Unit {0}) (window-row, tt) (r-next-line, tt) tt known-line-start (is-next-line, tt) (asks-none 𝓤 H A) (λ r ws. tells-none 𝓤)
+        (and-then ! (load ! (from ! (stop !)) (look ! 41 refl)) (no-more !)) (λ r-line-start is-line-start e-line-start. land ! (from ! (stop !)) (init ! 18 refl (tt, record { fits = is-line-start .1 })) $
         -- `line_end`
-        calls-value ! fm (uint-row w64) (line-end.clauses 𝓤 H A mem run) (λ r. Unit {0}) (window-row, tt) (r6, tt) tt known-line-end (is6, tt) (asks-none 𝓤 H A) (λ r ws. tells-none 𝓤)
-        (and-then ! (load ! (from ! (stop !)) (look ! 41 refl)) (no-more !)) (λ r18 is18 e18. land ! (from ! (stop !)) (init ! 16 refl (tt, record { fits = is18 .1 })) $
+        calls-value ! fm (uint-row w64) (line-end.clauses 𝓤 H A mem run) (λ r. Unit {0}) (window-row, tt) (r-next-line, tt) tt known-line-end (is-next-line, tt) (asks-none 𝓤 H A) (λ r ws. tells-none 𝓤)
+        (and-then ! (load ! (from ! (stop !)) (look ! 41 refl)) (no-more !)) (λ r-line-end is-line-end e-line-end. land ! (from ! (stop !)) (init ! 16 refl (tt, record { fits = is-line-end .1 })) $
         assigns ! (addr ! (from ! (fld ! refl (hop ! (look-in ! 44 (sub ! 0 refl (whole !))) (stop !))))) (from ! (stop !)) (init ! 14 refl (tt, tt)) $
         assigns ! (agg ! (and-then ! (load ! (from ! (stop !)) (look ! 14 refl)) (and-then ! (load ! (from ! (fld ! refl (stop !))) (look-in ! 44 (sub ! 1 refl (whole !)))) (no-more !)))) (from ! (stop !)) (init ! 12 refl (tt, (tt, (record { fits = room-output .0 }, tt)))) $
         -- `run_line`
-        move ! (6 ∷ 7 ∷ []) $ lend-slice ! tt u8 (named 3) (named 3) (a .1 .1 .1 .0 .ptr .0) (a .1 .1 .1 .0 .ptr .1) output (sliceVal (a .1 .1 .1 .0 .ptr) (length output)) (λ ν₇-5 δ₇-5.
-        move ! (4 ∷ 5 ∷ []) $ show-slice ! tt u8 (named 2) (named 2) (a .1 .1 .0 .ptr .0) (a .1 .1 .0 .ptr .1) zs6 (sliceVal (a .1 .1 .0 .ptr) (length input)) (λ ν₇-2 δ₇-2.
-        move ! (10 ∷ 11 ∷ []) $ lend-ref ! tt u64 (named 1) (named 1) (a .1 .0 .ptr .0) (a .1 .0 .ptr .1) now-clock (λ ν₇-1 δ₇-1.
-        move ! (12 ∷ 13 ∷ []) $ lend-slice ! tt Slot-t.the-row (named 0) (named 0) (a .0 .ptr .0) (a .0 .ptr .1) slots (sliceVal (a .0 .ptr) (length slots)) (λ ν₇-0 δ₇-0.
-        nothing ! $ move ! (14 ∷ 0 ∷ []) $ join ! $ move ! (10 ∷ 0 ∷ []) $ join ! $ move ! (6 ∷ 0 ∷ []) $ join ! $ move ! (2 ∷ 0 ∷ []) $ join ! $ nothing ! $ move ! (11 ∷ 0 ∷ []) $ fjoin ! $ owned ! u64 (Is u64) ((uint-row w64) .makes 𝓤 H A W) r18 _ (refl, is18 .1) $ fjoin ! $ owned ! u64 (Is u64) ((uint-row w64) .makes 𝓤 H A W) r17 _ (refl, is17 .1) $ fjoin ! $ move ! (8 ∷ 0 ∷ []) $ fjoin ! $ move ! (5 ∷ 0 ∷ []) $ fjoin ! $ move ! (2 ∷ 0 ∷ []) $ fjoin ! $ move ! (1 ∷ 0 ∷ []) $
-        calls-any ! fm run-line.ended (run-line.clauses 𝓤 H A mem run) (ν₇-0 ∷ [], (ν₇-1 ∷ [], (ν₇-2 ∷ [], (ν₇-5 ∷ [], tt)))) (fullShare, (fullShare, (fullShare, (fullShare, tt)))) tt (uint-row w64) (ref (a .0 .ptr .0) (a .0 .ptr .1) δ₇-0 slots, (ref (a .1 .0 .ptr .0) (a .1 .0 .ptr .1) δ₇-1 now-clock, (ref (a .1 .1 .0 .ptr .0) (a .1 .1 .0 .ptr .1) δ₇-2 zs6, (r17, (r18, (ref (a .1 .1 .1 .0 .ptr .0) (a .1 .1 .1 .0 .ptr .1) δ₇-5 output, tt)))))) (sliceVal (a .0 .ptr) (length slots) ∷ [], (vptr (a .1 .0 .ptr .0) (a .1 .0 .ptr .1) ∷ [], (sliceVal (a .1 .1 .0 .ptr) (length input) ∷ [], (vint w64 r17 ∷ [], (vint w64 r18 ∷ [], (sliceVal (a .1 .1 .1 .0 .ptr) (length output) ∷ [], tt)))))) tt (λ r ws. _) known-run-line (asks-none 𝓤 H A) (λ r ws. id⊢ 𝓤 _)
-        (and-then ! (load ! (from ! (stop !)) (look ! 27 refl)) (and-then ! (load ! (from ! (stop !)) (look ! 25 refl)) (and-then ! (load ! (from ! (stop !)) (look ! 21 refl)) (and-then ! (load ! (from ! (stop !)) (look ! 19 refl)) (and-then ! (load ! (from ! (stop !)) (look ! 17 refl)) (and-then ! (load ! (from ! (stop !)) (look ! 13 refl)) (no-more !))))))) (λ r7 ws7 is7 e7.
-        split ! $ move ! (1 ∷ []) $ split ! $ move ! (1 ∷ []) $ split ! $ move ! (1 ∷ []) $ split ! $ move ! (1 ∷ []) $ drop ! $ move ! (4 ∷ []) $ fsplit ! $ fsplit ! $ move ! (1 ∷ []) $ feqL ! (λ l7-0. move ! (0 ∷ 5 ∷ 6 ∷ 7 ∷ []) $ back-slice ! tt Slot-t.the-row (named 0) (a .0 .ptr .0) (a .0 .ptr .1) slots (ws7 .0) (sliceVal (a .0 .ptr) (length slots)) l7-0 refl room-slots $ move ! (2 ∷ []) $ fsplit ! $ move ! (0 ∷ 6 ∷ 7 ∷ 8 ∷ []) $ back-ref ! tt u64 (named 1) (a .1 .0 .ptr .0) (a .1 .0 .ptr .1) now-clock (ws7 .1 .0) $ move ! (2 ∷ []) $ fsplit ! $ drop ! $ move ! (6 ∷ 7 ∷ 8 ∷ []) $ hide-slice ! tt u8 (named 2) (a .1 .1 .0 .ptr .0) (a .1 .1 .0 .ptr .1) zs6 (sliceVal (a .1 .1 .0 .ptr) (length input)) (ap (sliceVal (a .1 .1 .0 .ptr)) (sym l6)) (subst (Room u8) (sym l6) room-input) $ move ! (2 ∷ []) $ fsplit ! $ drop ! $ fsplit ! $ drop ! $ fsplit ! $ fsplit ! $ move ! (1 ∷ []) $ feqL ! (λ l7-5. move ! (0 ∷ 8 ∷ 9 ∷ 10 ∷ []) $ back-slice ! tt u8 (named 3) (a .1 .1 .1 .0 .ptr .0) (a .1 .1 .1 .0 .ptr .1) output (ws7 .1 .1 .1 .1 .1 .0) (sliceVal (a .1 .1 .1 .0 .ptr) (length output)) l7-5 refl room-output $ move ! (2 ∷ []) $ drop ! $
-        land ! (from ! (stop !)) (init ! 38 refl (tt, record { fits = is7 .1 })) $
+        move ! (6 ∷ 7 ∷ []) $ lend-slice ! tt u8 (named 3) (named 3) (a .1 .1 .1 .0 .ptr .0) (a .1 .1 .1 .0 .ptr .1) output (sliceVal (a .1 .1 .1 .0 .ptr) (length output)) (λ ν-run-line-output δ-run-line-output.
+        move ! (4 ∷ 5 ∷ []) $ show-slice ! tt u8 (named 2) (named 2) (a .1 .1 .0 .ptr .0) (a .1 .1 .0 .ptr .1) zs-next-line (sliceVal (a .1 .1 .0 .ptr) (length input)) (λ ν-run-line-input δ-run-line-input.
+        move ! (10 ∷ 11 ∷ []) $ lend-ref ! tt u64 (named 1) (named 1) (a .1 .0 .ptr .0) (a .1 .0 .ptr .1) now-clock (λ ν-run-line-clock δ-run-line-clock.
+        move ! (12 ∷ 13 ∷ []) $ lend-slice ! tt Slot-t.the-row (named 0) (named 0) (a .0 .ptr .0) (a .0 .ptr .1) slots (sliceVal (a .0 .ptr) (length slots)) (λ ν-run-line-slots δ-run-line-slots.
+        nothing ! $ move ! (14 ∷ 0 ∷ []) $ join ! $ move ! (10 ∷ 0 ∷ []) $ join ! $ move ! (6 ∷ 0 ∷ []) $ join ! $ move ! (2 ∷ 0 ∷ []) $ join ! $ nothing ! $ move ! (11 ∷ 0 ∷ []) $ fjoin ! $ owned ! u64 (Is u64) ((uint-row w64) .makes 𝓤 H A W) r-line-end _ (refl, is-line-end .1) $ fjoin ! $ owned ! u64 (Is u64) ((uint-row w64) .makes 𝓤 H A W) r-line-start _ (refl, is-line-start .1) $ fjoin ! $ move ! (8 ∷ 0 ∷ []) $ fjoin ! $ move ! (5 ∷ 0 ∷ []) $ fjoin ! $ move ! (2 ∷ 0 ∷ []) $ fjoin ! $ move ! (1 ∷ 0 ∷ []) $
+        calls-any ! fm run-line.ended (run-line.clauses 𝓤 H A mem run) (ν-run-line-slots ∷ [], (ν-run-line-clock ∷ [], (ν-run-line-input ∷ [], (ν-run-line-output ∷ [], tt)))) (fullShare, (fullShare, (fullShare, (fullShare, tt)))) tt (uint-row w64) (ref (a .0 .ptr .0) (a .0 .ptr .1) δ-run-line-slots slots, (ref (a .1 .0 .ptr .0) (a .1 .0 .ptr .1) δ-run-line-clock now-clock, (ref (a .1 .1 .0 .ptr .0) (a .1 .1 .0 .ptr .1) δ-run-line-input zs-next-line, (r-line-start, (r-line-end, (ref (a .1 .1 .1 .0 .ptr .0) (a .1 .1 .1 .0 .ptr .1) δ-run-line-output output, tt)))))) (sliceVal (a .0 .ptr) (length slots) ∷ [], (vptr (a .1 .0 .ptr .0) (a .1 .0 .ptr .1) ∷ [], (sliceVal (a .1 .1 .0 .ptr) (length input) ∷ [], (vint w64 r-line-start ∷ [], (vint w64 r-line-end ∷ [], (sliceVal (a .1 .1 .1 .0 .ptr) (length output) ∷ [], tt)))))) tt (λ r ws. _) known-run-line (asks-none 𝓤 H A) (λ r ws. id⊢ 𝓤 _)
+        (and-then ! (load ! (from ! (stop !)) (look ! 27 refl)) (and-then ! (load ! (from ! (stop !)) (look ! 25 refl)) (and-then ! (load ! (from ! (stop !)) (look ! 21 refl)) (and-then ! (load ! (from ! (stop !)) (look ! 19 refl)) (and-then ! (load ! (from ! (stop !)) (look ! 17 refl)) (and-then ! (load ! (from ! (stop !)) (look ! 13 refl)) (no-more !))))))) (λ r-run-line ws-run-line is-run-line e-run-line.
+        split ! $ move ! (1 ∷ []) $ split ! $ move ! (1 ∷ []) $ split ! $ move ! (1 ∷ []) $ split ! $ move ! (1 ∷ []) $ drop ! $ move ! (4 ∷ []) $ fsplit ! $ fsplit ! $ move ! (1 ∷ []) $ feqL ! (λ l-run-line-slots. move ! (0 ∷ 5 ∷ 6 ∷ 7 ∷ []) $ back-slice ! tt Slot-t.the-row (named 0) (a .0 .ptr .0) (a .0 .ptr .1) slots (ws-run-line .0) (sliceVal (a .0 .ptr) (length slots)) l-run-line-slots refl room-slots $ move ! (2 ∷ []) $ fsplit ! $ move ! (0 ∷ 6 ∷ 7 ∷ 8 ∷ []) $ back-ref ! tt u64 (named 1) (a .1 .0 .ptr .0) (a .1 .0 .ptr .1) now-clock (ws-run-line .1 .0) $ move ! (2 ∷ []) $ fsplit ! $ drop ! $ move ! (6 ∷ 7 ∷ 8 ∷ []) $ hide-slice ! tt u8 (named 2) (a .1 .1 .0 .ptr .0) (a .1 .1 .0 .ptr .1) zs-next-line (sliceVal (a .1 .1 .0 .ptr) (length input)) (ap (sliceVal (a .1 .1 .0 .ptr)) (sym l-next-line)) (subst (Room u8) (sym l-next-line) room-input) $ move ! (2 ∷ []) $ fsplit ! $ drop ! $ fsplit ! $ drop ! $ fsplit ! $ fsplit ! $ move ! (1 ∷ []) $ feqL ! (λ l-run-line-output. move ! (0 ∷ 8 ∷ 9 ∷ 10 ∷ []) $ back-slice ! tt u8 (named 3) (a .1 .1 .1 .0 .ptr .0) (a .1 .1 .1 .0 .ptr .1) output (ws-run-line .1 .1 .1 .1 .1 .0) (sliceVal (a .1 .1 .1 .0 .ptr) (length output)) l-run-line-output refl room-output $ move ! (2 ∷ []) $ drop ! $
+        land ! (from ! (stop !)) (init ! 38 refl (tt, record { fits = is-run-line .1 })) $
         assigns ! (addr ! (from ! (fld ! refl (hop ! (look-in ! 44 (sub ! 0 refl (whole !))) (stop !))))) (from ! (stop !)) (init ! 10 refl (tt, tt)) $
         assigns ! (agg ! (and-then ! (load ! (from ! (stop !)) (look ! 10 refl)) (and-then ! (load ! (from ! (fld ! refl (stop !))) (look-in ! 44 (sub ! 1 refl (whole !)))) (no-more !)))) (from ! (stop !)) (init ! 8 refl (tt, (tt, (record { fits = room-output .0 }, tt)))) $
         -- `written`
-        calls-shown ! fm u8 (window-row) (written.clauses 𝓤 H A mem run) (λ r. Unit {0}) (named 3) (a .1 .1 .1 .0 .ptr .0) (a .1 .1 .1 .0 .ptr .1) ((ws7 .1 .1 .1 .1 .1 .0)) (sliceVal (a .1 .1 .1 .0 .ptr) (length output)) (λ ν. (r7, (r6, tt))) (λ ν. (uint-row w64, (window-row, tt))) (λ ν δ. tt) known-written (λ ν. ((refl, is7 .1), (is6, tt))) (λ ν δ. (asks-none 𝓤 H A)) (λ ν δ r ws. tells-none 𝓤)
-        (λ ν δ. (and-then ! (load ! (from ! (stop !)) (look ! 8 refl)) (and-then ! (load ! (from ! (stop !)) (look ! 38 refl)) (and-then ! (load ! (from ! (stop !)) (look ! 40 refl)) (no-more !))))) (λ r0 is0 e0. land ! (from ! (stop !)) (init ! 52 refl (window-typed 𝓤 H A W (r0) (is0))) $
+        calls-shown ! fm u8 window-row (written.clauses 𝓤 H A mem run) (λ r. Unit {0}) (named 3) (a .1 .1 .1 .0 .ptr .0) (a .1 .1 .1 .0 .ptr .1) (ws-run-line .1 .1 .1 .1 .1 .0) (sliceVal (a .1 .1 .1 .0 .ptr) (length output)) (λ ν. (r-run-line, (r-next-line, tt))) (λ ν. (uint-row w64, (window-row, tt))) (λ ν δ. tt) known-written (λ ν. ((refl, is-run-line .1), (is-next-line, tt))) (λ ν δ. (asks-none 𝓤 H A)) (λ ν δ r ws. tells-none 𝓤)
+        (λ ν δ. (and-then ! (load ! (from ! (stop !)) (look ! 8 refl)) (and-then ! (load ! (from ! (stop !)) (look ! 38 refl)) (and-then ! (load ! (from ! (stop !)) (look ! 40 refl)) (no-more !))))) (λ r-written is-written e-written. land ! (from ! (stop !)) (init ! 52 refl (window-typed 𝓤 H A W r-written is-written)) $
         returns ! (look ! 52 refl) $ out ! 52 refl refl $ out ! 50 refl refl $ out ! 48 refl refl $ out ! 46 refl refl $ out ! 44 refl refl $ out ! 42 refl refl $ out ! 40 refl refl $ out ! 38 refl refl $ out ! 36 refl refl $ out ! 34 refl refl $ out ! 32 refl refl $ out ! 30 refl refl $ out ! 28 refl refl $ out ! 26 refl refl $ out ! 24 refl refl $ out ! 22 refl refl $ out ! 20 refl refl $ out ! 18 refl refl $ out ! 16 refl refl $ out ! 14 refl refl $ out ! 12 refl refl $ out ! 10 refl refl $ out ! 8 refl refl $ free0 ! $
-        keep ! (6 ∷ 7 ∷ 4 ∷ 5 ∷ 2 ∷ 3 ∷ 0 ∷ 1 ∷ []) $ by ! (exits (r0) ((ws7 .0)) ((ws7 .1 .0)) (zs6) ((ws7 .1 .1 .1 .1 .1 .0)) tt l7-0 l6 l7-5 is0)))))))))))))))))))))))))))))))))))))
+        keep ! (6 ∷ 7 ∷ 4 ∷ 5 ∷ 2 ∷ 3 ∷ 0 ∷ 1 ∷ []) $ by ! (exits r-written (ws-run-line .0) (ws-run-line .1 .0) zs-next-line (ws-run-line .1 .1 .1 .1 .1 .0) tt l-run-line-slots l-next-line l-run-line-output is-written)))))))))))))))))))))))))))))))))))))
 
 pub answer-next-spec : {M : Type 1} → stated.statement M
 unfolding code.routine

@@ -1,11 +1,10 @@
--- `calls::serve` meets its contract: a walk of its MIR, by hand.
-use Rattle.slots.proofs.Pre.{ltb→lt, ℕ, _<_, _^_, _-_, ftrue, fat, flft, froom, fdies, SProp, ent, emp, via, fst∗, id⊢, Lfts, Shares, Fun, givenOf, tables, tablesOf, u64, u8, Is, pointee, Boolean, owns, MutRef, ptr-vals, mut-tells, plain, sliceVal, MutSlice, Room, slice-vals, mut-slice-tells, sliceTy, owned, nothing, onEntry, Args, Vals, Triple, cited, says, needs, Stays, stay-slice, walkOf, goes-slice, ends-at, walked, stay-ref, goes-ref, Atoms, fullShare, URA, lit<, length, set, getD, Bool, [], _∷_, List, refl, sym, _≡_, _∙_, ap, subst, named, w64, tyInt, tyBool, tyRef, erased, mut, w8, Val, vint, vptr, vbool, arith, Memory, Routine, Heap, WpFn, Tables, FmC, Given, feqL, ‵, _⊛_, ⋆, _$_, _∵_, !, qed, by, move, drop, split, join, fsplit, fjoin, suffices, frame, done, keep, Item, whole, sub, look-in, agg, look, neg-lit, init, forget, stop, hop, fld, from, load, lit, of-opd, bin, assigns, returns, enter, alloc1, alloc0, params1, pass1, pass0, free0, store, and-then, no-more, assigns-last, land, addr}
-use Rattle.slots.proofs.Walk.{says-none, tells-none, uint-row, bool-row, ref, shown, asks-none, Of, tokens, calls-any, calls-value, out, out-room, below-fits, next-fits, falls, whiles, tests, tells-none, says-none, framed-calls, finish}
-use Rattle.slots.proofs.Lends.{lend-slice, back-slice, lend-ref, back-ref}
+-- `calls::serve` meets its contract: a walk of its MIR, made by tools/rewalk.
+use Rattle.walk.proofs.Pre.{ℕ, _<_, _^_, _-_, ftrue, fat, flft, froom, fdies, SProp, ent, emp, via, fst∗, id⊢, Lfts, Shares, Fun, givenOf, tables, tablesOf, u64, u8, Is, pointee, Boolean, owns, MutRef, ptr-vals, mut-tells, plain, sliceVal, MutSlice, Room, slice-vals, mut-slice-tells, sliceTy, owned, nothing, onEntry, Args, Vals, Triple, cited, says, Stays, stay-slice, walkOf, goes-slice, ends-at, walked, stay-ref, goes-ref, Atoms, fullShare, URA, lit<, ltb→lt, length, Bool, [], _∷_, List, refl, sym, _≡_, _∙_, ap, subst, named, w64, tyInt, tyBool, tyRef, erased, mut, w8, Val, vint, vptr, vbool, Memory, Routine, Heap, WpFn, Tables, FmC, Given, feqL, ‵, _⊛_, ⋆, _$_, _∵_, !, qed, by, move, drop, split, join, fsplit, fjoin, suffices, frame, done, keep, Item, whole, sub, look-in, agg, look, neg-lit, init, forget, stop, hop, fld, from, load, lit, of-opd, bin, assigns, returns, enter, alloc1, alloc0, params1, pass1, pass0, free0, store, and-then, no-more, assigns-last, land, addr}
+use Rattle.walk.proofs.Walk.{uint-row, bool-row, ref, shown, asks-none, Of, tokens, calls-any, calls-value, out, out-room, whiles, tests, tells-none, says-none, framed-calls, finish}
+use Rattle.walk.proofs.Lends.{lend-slice, back-slice, lend-ref, back-ref}
+use Rattle.calls.proofs.Rows.{window-row, window-typed}
 use Rattle.table.specs.declared.Slot.{Slot}
 use Rattle.table.proofs.Slot as Slot-t
-use Rattle.table.proofs.Slot.Laws as Slot-l
-use Rattle.calls.proofs.Rows.{window-row, window-typed}
 use Rattle.calls.specs.declared.Window.{Window}
 use Rattle.calls.proofs.Window as Window-t
 use Rattle.calls.proofs.Window.Laws as Window-l
@@ -80,23 +79,23 @@ module _ {M : Type 1} (𝓤 : URA M) (H : Heap 𝓤) (A : Atoms 𝓤) (W : Given
   abbrev Said : Bool → List Slot → ℕ → List ℕ → List ℕ → Type 0
   Said r z-slots z-clock z-input z-output = Unit {0}
 
-  exits : (r : Bool) (z-slots : List Slot) (z-clock : ℕ) (z-input : List ℕ) (z-output : List ℕ) → Said r z-slots z-clock z-input z-output → length z-slots ≡ length slots → length z-input ≡ length input → length z-output ≡ length output → Is Boolean (r) (vbool r ∷ [])
+  exits : (r : Bool) (z-slots : List Slot) (z-clock : ℕ) (z-input : List ℕ) (z-output : List ℕ) → Said r z-slots z-clock z-input z-output → length z-slots ≡ length slots → length z-input ≡ length input → length z-output ≡ length output → Is Boolean r (vbool r ∷ [])
       → ent 𝓤 (⋆ 𝓤 H A (Own-slots z-slots ∷ t0 ∷ Own-clock z-clock ∷ t1 ∷ Own-input z-input ∷ t2 ∷ Own-output z-output ∷ t3 ∷ [])) (Post (vbool r))
   exits r z-slots z-clock z-input z-output e l-slots l-input l-output is =
       qed W (Own-slots z-slots ∷ t0 ∷ Own-clock z-clock ∷ t1 ∷ Own-input z-input ∷ t2 ∷ Own-output z-output ∷ t3 ∷ []) ∵
       suffices ! _ (ends-at 𝓤 H A serve.ended stayed (serve.clauses 𝓤 H A mem run) W ((κs, qs, tt, a, at), tt) (vbool r) r (z-slots, (z-clock, (z-input, (z-output, tt)))) (l-slots, (tt, (l-input, (l-output, tt))))) $ says-none ! $
       nothing ! $ move ! (8 ∷ 0 ∷ []) $ join ! $ move ! (6 ∷ 0 ∷ []) $ join ! $ move ! (4 ∷ 0 ∷ []) $ join ! $ move ! (2 ∷ 0 ∷ []) $ join ! $ frame ! $
-      nothing ! $ move ! (4 ∷ 0 ∷ []) $ fjoin ! $ move ! (3 ∷ 0 ∷ []) $ fjoin ! $ move ! (2 ∷ 0 ∷ []) $ fjoin ! $ move ! (1 ∷ 0 ∷ []) $ fjoin ! $ frame ! $ owned ! Boolean (Is Boolean) ((bool-row) .makes 𝓤 H A W) r _ is $ done !
+      nothing ! $ move ! (4 ∷ 0 ∷ []) $ fjoin ! $ move ! (3 ∷ 0 ∷ []) $ fjoin ! $ move ! (2 ∷ 0 ∷ []) $ fjoin ! $ move ! (1 ∷ 0 ∷ []) $ fjoin ! $ frame ! $ owned ! Boolean (Is Boolean) (bool-row .makes 𝓤 H A W) r _ is $ done !
 
   -- ---- the loop: its state, with what is known of it and, last, the invariant; its measure; and the context in that state
   abbrev State : Type 0
-  State = (x-5 : Window) × (x-6 : ℕ) × (x-slots : List Slot) × (x-clock : ℕ) × (x-input : List ℕ) × (x-output : List ℕ) × ((Is Window-t.the-row x-5 (window-row .val x-5 ∷ [])) × ((x-6 < 2 ^ 64) × ((length x-slots ≡ length slots) × ((length x-input ≡ length input) × ((length x-output ≡ length output) × Unit {0})))))
+  State = (x-window : Window) × (x-turns : ℕ) × (x-slots : List Slot) × (x-clock : ℕ) × (x-input : List ℕ) × (x-output : List ℕ) × ((Is Window-t.the-row x-window (window-row .val x-window ∷ [])) × ((x-turns < 2 ^ 64) × ((length x-slots ≡ length slots) × ((length x-input ≡ length input) × ((length x-output ≡ length output) × ((Unit {0})))))))
 
   abbrev μ : State → ℕ
-  μ x = x .1
+  μ x = (x .1)
 
   abbrev I : (l₀ l₁ l₂ l₃ l₄ l₅ l₆ l₇ l₈ l₉ l₁₀ l₁₁ l₁₂ l₁₃ l₁₄ l₁₅ : ℕ) → State → List (Item 𝓤)
-  I l₀ l₁ l₂ l₃ l₄ l₅ l₆ l₇ l₈ l₉ l₁₀ l₁₁ l₁₂ l₁₃ l₁₄ l₁₅ x = Own-slots (x .2) ∷ t0 ∷ Own-clock (x .3) ∷ t1 ∷ Own-input (x .4) ∷ t2 ∷ Own-output (x .5) ∷ t3 ∷ ‵ (froom (sliceTy (tyRef erased mut (tyInt w8))) l₁₅ 0) ∷ ‵ (fdies (sliceTy (tyRef erased mut (tyInt w8))) l₁₅) ∷ ‵ (froom (tyRef erased mut (tyInt w8)) l₁₄ 0) ∷ ‵ (fdies (tyRef erased mut (tyInt w8)) l₁₄) ∷ ‵ (froom (sliceTy (tyRef erased mut (tyInt w8))) l₁₃ 0) ∷ ‵ (fdies (sliceTy (tyRef erased mut (tyInt w8))) l₁₃) ∷ ‵ (froom (tyRef erased mut (tyInt w8)) l₁₂ 0) ∷ ‵ (fdies (tyRef erased mut (tyInt w8)) l₁₂) ∷ ‵ (froom (tyRef erased mut (tyInt w64)) l₁₁ 0) ∷ ‵ (fdies (tyRef erased mut (tyInt w64)) l₁₁) ∷ ‵ (froom (sliceTy (tyRef erased mut (pointee (Slot-t.the-row .written)))) l₁₀ 0) ∷ ‵ (fdies (sliceTy (tyRef erased mut (pointee (Slot-t.the-row .written)))) l₁₀) ∷ ‵ (froom (tyRef erased mut (pointee (Slot-t.the-row .written))) l₉ 0) ∷ ‵ (fdies (tyRef erased mut (pointee (Slot-t.the-row .written))) l₉) ∷ ‵ (froom (tyBool) l₈ 0) ∷ ‵ (fdies (tyBool) l₈) ∷ ‵ (froom (tyInt w64) l₇ 0) ∷ ‵ (fdies (tyInt w64) l₇) ∷ ‵ (fat fullShare (tyInt w64) l₆ 0 (vint w64 (x .1))) ∷ ‵ (fdies (tyInt w64) l₆) ∷ ‵ (fat fullShare (Window-l.mir) l₅ 0 (window-row .val ((x .0)))) ∷ ‵ (fdies (Window-l.mir) l₅) ∷ ‵ (fat fullShare (sliceTy (tyRef (named 3) mut (tyInt w8))) l₄ 0 (sliceVal (a .1 .1 .1 .0 .ptr) (length output))) ∷ ‵ (fdies (sliceTy (tyRef (named 3) mut (tyInt w8))) l₄) ∷ ‵ (fat fullShare (sliceTy (tyRef (named 2) mut (tyInt w8))) l₃ 0 (sliceVal (a .1 .1 .0 .ptr) (length input))) ∷ ‵ (fdies (sliceTy (tyRef (named 2) mut (tyInt w8))) l₃) ∷ ‵ (fat fullShare (tyRef (named 1) mut (tyInt w64)) l₂ 0 (vptr (a .1 .0 .ptr .0) (a .1 .0 .ptr .1))) ∷ ‵ (fdies (tyRef (named 1) mut (tyInt w64)) l₂) ∷ ‵ (fat fullShare (sliceTy (tyRef (named 0) mut (pointee (Slot-t.the-row .written)))) l₁ 0 (sliceVal (a .0 .ptr) (length slots))) ∷ ‵ (fdies (sliceTy (tyRef (named 0) mut (pointee (Slot-t.the-row .written)))) l₁) ∷ ‵ (froom (tyBool) l₀ 0) ∷ ‵ (fdies (tyBool) l₀) ∷ []
+  I l₀ l₁ l₂ l₃ l₄ l₅ l₆ l₇ l₈ l₉ l₁₀ l₁₁ l₁₂ l₁₃ l₁₄ l₁₅ x = Own-slots (x .2) ∷ t0 ∷ Own-clock (x .3) ∷ t1 ∷ Own-input (x .4) ∷ t2 ∷ Own-output (x .5) ∷ t3 ∷ ‵ (froom (sliceTy (tyRef erased mut (tyInt w8))) l₁₅ 0) ∷ ‵ (fdies (sliceTy (tyRef erased mut (tyInt w8))) l₁₅) ∷ ‵ (froom (tyRef erased mut (tyInt w8)) l₁₄ 0) ∷ ‵ (fdies (tyRef erased mut (tyInt w8)) l₁₄) ∷ ‵ (froom (sliceTy (tyRef erased mut (tyInt w8))) l₁₃ 0) ∷ ‵ (fdies (sliceTy (tyRef erased mut (tyInt w8))) l₁₃) ∷ ‵ (froom (tyRef erased mut (tyInt w8)) l₁₂ 0) ∷ ‵ (fdies (tyRef erased mut (tyInt w8)) l₁₂) ∷ ‵ (froom (tyRef erased mut (tyInt w64)) l₁₁ 0) ∷ ‵ (fdies (tyRef erased mut (tyInt w64)) l₁₁) ∷ ‵ (froom (sliceTy (tyRef erased mut (pointee (Slot-t.the-row .written)))) l₁₀ 0) ∷ ‵ (fdies (sliceTy (tyRef erased mut (pointee (Slot-t.the-row .written)))) l₁₀) ∷ ‵ (froom (tyRef erased mut (pointee (Slot-t.the-row .written))) l₉ 0) ∷ ‵ (fdies (tyRef erased mut (pointee (Slot-t.the-row .written))) l₉) ∷ ‵ (froom tyBool l₈ 0) ∷ ‵ (fdies tyBool l₈) ∷ ‵ (froom (tyInt w64) l₇ 0) ∷ ‵ (fdies (tyInt w64) l₇) ∷ ‵ (fat fullShare (tyInt w64) l₆ 0 (vint w64 (x .1))) ∷ ‵ (fdies (tyInt w64) l₆) ∷ ‵ (fat fullShare Window-l.mir l₅ 0 (window-row .val (x .0))) ∷ ‵ (fdies Window-l.mir l₅) ∷ ‵ (fat fullShare (sliceTy (tyRef (named 3) mut (tyInt w8))) l₄ 0 (sliceVal (a .1 .1 .1 .0 .ptr) (length output))) ∷ ‵ (fdies (sliceTy (tyRef (named 3) mut (tyInt w8))) l₄) ∷ ‵ (fat fullShare (sliceTy (tyRef (named 2) mut (tyInt w8))) l₃ 0 (sliceVal (a .1 .1 .0 .ptr) (length input))) ∷ ‵ (fdies (sliceTy (tyRef (named 2) mut (tyInt w8))) l₃) ∷ ‵ (fat fullShare (tyRef (named 1) mut (tyInt w64)) l₂ 0 (vptr (a .1 .0 .ptr .0) (a .1 .0 .ptr .1))) ∷ ‵ (fdies (tyRef (named 1) mut (tyInt w64)) l₂) ∷ ‵ (fat fullShare (sliceTy (tyRef (named 0) mut (pointee (Slot-t.the-row .written)))) l₁ 0 (sliceVal (a .0 .ptr) (length slots))) ∷ ‵ (fdies (sliceTy (tyRef (named 0) mut (pointee (Slot-t.the-row .written)))) l₁) ∷ ‵ (froom tyBool l₀ 0) ∷ ‵ (fdies tyBool l₀) ∷ []
 
   module _ (𝓣 : Tables 𝓤 H) (fm : FmC 𝓤 H (W .laws) (𝓣 .C)) (known-first-window : Triple 𝓤 (𝓣 .C #calls·first-window) (Of 𝓤 H A first-window.ended (first-window.clauses 𝓤 H A mem run))) (known-answer-next : Triple 𝓤 (𝓣 .C #calls·answer-next) (Of 𝓤 H A answer-next.ended (answer-next.clauses 𝓤 H A mem run))) (known-turns-after : Triple 𝓤 (𝓣 .C #calls·turns-after) (Of 𝓤 H A turns-after.ended (turns-after.clauses 𝓤 H A mem run))) (known-is-end : Triple 𝓤 (𝓣 .C #calls·is-end) (Of 𝓤 H A is-end.ended (is-end.clauses 𝓤 H A mem run))) where
     walk : Room Slot-t.the-row (length slots) → Room u8 (length input) → Room u8 (length output) → ent 𝓤 (onEntry 𝓤 H A serve.signature κs qs a at) (WpFn 𝓤 H (𝓣 .C) (𝓣 .Λ) code.function (sliceVal (a .0 .ptr) (length slots) ∷ vptr (a .1 .0 .ptr .0) (a .1 .0 .ptr .1) ∷ sliceVal (a .1 .1 .0 .ptr) (length input) ∷ sliceVal (a .1 .1 .1 .0 .ptr) (length output) ∷ []) Post)
@@ -109,10 +108,11 @@ module _ {M : Type 1} (𝓤 : URA M) (H : Heap 𝓤) (A : Atoms 𝓤) (W : Given
         -- the references and their tokens first: from here local k stands at 38 - 2 k
         move ! (32 ∷ 33 ∷ 34 ∷ 35 ∷ 36 ∷ 37 ∷ 38 ∷ 39 ∷ []) $
         -- `first_window`
-        calls-value ! fm (window-row) (first-window.clauses 𝓤 H A mem run) (λ r. Unit {0}) tt tt tt known-first-window tt (asks-none 𝓤 H A) (λ r ws. tells-none 𝓤)
-        (no-more !) (λ r5 is5 e5. land ! (from ! (stop !)) (init ! 28 refl (window-typed 𝓤 H A W (r5) (is5))) $
+        calls-value ! fm window-row (first-window.clauses 𝓤 H A mem run) (λ r. Unit {0}) tt tt tt known-first-window tt (asks-none 𝓤 H A) (λ r ws. tells-none 𝓤)
+        (no-more !) (λ r-first-window is-first-window e-first-window. land ! (from ! (stop !)) (init ! 28 refl (window-typed 𝓤 H A W r-first-window is-first-window)) $
         assigns ! (of-opd ! (neg-lit ! tt)) (from ! (stop !)) (init ! 26 refl (tt, record { fits = lit< tt })) $
-        whiles ! 𝓣 μ (I l₀ l₁ l₂ l₃ l₄ l₅ l₆ l₇ l₈ l₉ l₁₀ l₁₁ l₁₂ l₁₃ l₁₄ l₁₅) (λ x leave again.
+        whiles ! 𝓣 μ (I l₀ l₁ l₂ l₃ l₄ l₅ l₆ l₇ l₈ l₉ l₁₀ l₁₁ l₁₂ l₁₃ l₁₄ l₁₅)
+        (λ x leave again back.
         assigns ! (bin ! (lit ! tt) (load ! (from ! (stop !)) (look ! 26 refl)) tt) (from ! (stop !)) (init ! 22 refl (tt, tt)) $
         tests ! (load ! (from ! (stop !)) (look ! 22 refl))
         (λ less.
@@ -124,29 +124,29 @@ module _ {M : Type 1} (𝓤 : URA M) (H : Heap 𝓤) (A : Atoms 𝓤) (W : Given
         assigns ! (addr ! (from ! (fld ! refl (hop ! (look-in ! 30 (sub ! 0 refl (whole !))) (stop !))))) (from ! (stop !)) (init ! 10 refl (tt, tt)) $
         assigns ! (agg ! (and-then ! (load ! (from ! (stop !)) (look ! 10 refl)) (and-then ! (load ! (from ! (fld ! refl (stop !))) (look-in ! 30 (sub ! 1 refl (whole !)))) (no-more !)))) (from ! (stop !)) (init ! 8 refl (tt, (tt, (record { fits = room-output .0 }, tt)))) $
         -- `answer_next`
-        move ! (6 ∷ 7 ∷ []) $ lend-slice ! tt u8 (named 3) (named 3) (a .1 .1 .1 .0 .ptr .0) (a .1 .1 .1 .0 .ptr .1) (x .5) (sliceVal (a .1 .1 .1 .0 .ptr) (length output)) (λ ν₅-3 δ₅-3.
-        move ! (8 ∷ 9 ∷ []) $ lend-slice ! tt u8 (named 2) (named 2) (a .1 .1 .0 .ptr .0) (a .1 .1 .0 .ptr .1) (x .4) (sliceVal (a .1 .1 .0 .ptr) (length input)) (λ ν₅-2 δ₅-2.
-        move ! (10 ∷ 11 ∷ []) $ lend-ref ! tt u64 (named 1) (named 1) (a .1 .0 .ptr .0) (a .1 .0 .ptr .1) (x .3) (λ ν₅-1 δ₅-1.
-        move ! (12 ∷ 13 ∷ []) $ lend-slice ! tt Slot-t.the-row (named 0) (named 0) (a .0 .ptr .0) (a .0 .ptr .1) (x .2) (sliceVal (a .0 .ptr) (length slots)) (λ ν₅-0 δ₅-0.
-        nothing ! $ move ! (14 ∷ 0 ∷ []) $ join ! $ move ! (10 ∷ 0 ∷ []) $ join ! $ move ! (6 ∷ 0 ∷ []) $ join ! $ move ! (2 ∷ 0 ∷ []) $ join ! $ nothing ! $ owned ! Window-t.the-row (Is Window-t.the-row) ((window-row) .makes 𝓤 H A W) (x .0) _ (x .6 .0) $ fjoin ! $ move ! (11 ∷ 0 ∷ []) $ fjoin ! $ move ! (8 ∷ 0 ∷ []) $ fjoin ! $ move ! (5 ∷ 0 ∷ []) $ fjoin ! $ move ! (2 ∷ 0 ∷ []) $ fjoin ! $ move ! (1 ∷ 0 ∷ []) $
-        calls-any ! fm answer-next.ended (answer-next.clauses 𝓤 H A mem run) (ν₅-0 ∷ [], (ν₅-1 ∷ [], (ν₅-2 ∷ [], (ν₅-3 ∷ [], tt)))) (fullShare, (fullShare, (fullShare, (fullShare, tt)))) tt (window-row) (ref (a .0 .ptr .0) (a .0 .ptr .1) δ₅-0 (x .2), (ref (a .1 .0 .ptr .0) (a .1 .0 .ptr .1) δ₅-1 (x .3), (ref (a .1 .1 .0 .ptr .0) (a .1 .1 .0 .ptr .1) δ₅-2 (x .4), (ref (a .1 .1 .1 .0 .ptr .0) (a .1 .1 .1 .0 .ptr .1) δ₅-3 (x .5), ((x .0), tt))))) (sliceVal (a .0 .ptr) (length slots) ∷ [], (vptr (a .1 .0 .ptr .0) (a .1 .0 .ptr .1) ∷ [], (sliceVal (a .1 .1 .0 .ptr) (length input) ∷ [], (sliceVal (a .1 .1 .1 .0 .ptr) (length output) ∷ [], (window-row .val ((x .0)) ∷ [], tt))))) tt (λ r ws. Unit {0}) known-answer-next (asks-none 𝓤 H A) (λ r ws. tells-none 𝓤)
-        (and-then ! (load ! (from ! (stop !)) (look ! 19 refl)) (and-then ! (load ! (from ! (stop !)) (look ! 17 refl)) (and-then ! (load ! (from ! (stop !)) (look ! 13 refl)) (and-then ! (load ! (from ! (stop !)) (look ! 9 refl)) (and-then ! (load ! (from ! (stop !)) (look ! 29 refl)) (no-more !)))))) (λ r5 ws5 is5 e5.
-        split ! $ move ! (1 ∷ []) $ split ! $ move ! (1 ∷ []) $ split ! $ move ! (1 ∷ []) $ split ! $ move ! (1 ∷ []) $ drop ! $ move ! (4 ∷ []) $ fsplit ! $ fsplit ! $ move ! (1 ∷ []) $ feqL ! (λ l5-0. move ! (0 ∷ 5 ∷ 6 ∷ 7 ∷ []) $ back-slice ! tt Slot-t.the-row (named 0) (a .0 .ptr .0) (a .0 .ptr .1) (x .2) (ws5 .0) (sliceVal (a .0 .ptr) (length slots)) l5-0 (ap (sliceVal (a .0 .ptr)) (sym (x .6 .1 .1 .0))) (subst (Room Slot-t.the-row) (sym (x .6 .1 .1 .0)) room-slots) $ move ! (2 ∷ []) $ fsplit ! $ move ! (0 ∷ 6 ∷ 7 ∷ 8 ∷ []) $ back-ref ! tt u64 (named 1) (a .1 .0 .ptr .0) (a .1 .0 .ptr .1) (x .3) (ws5 .1 .0) $ move ! (2 ∷ []) $ fsplit ! $ fsplit ! $ move ! (1 ∷ []) $ feqL ! (λ l5-2. move ! (0 ∷ 7 ∷ 8 ∷ 9 ∷ []) $ back-slice ! tt u8 (named 2) (a .1 .1 .0 .ptr .0) (a .1 .1 .0 .ptr .1) (x .4) (ws5 .1 .1 .0) (sliceVal (a .1 .1 .0 .ptr) (length input)) l5-2 (ap (sliceVal (a .1 .1 .0 .ptr)) (sym (x .6 .1 .1 .1 .0))) (subst (Room u8) (sym (x .6 .1 .1 .1 .0)) room-input) $ move ! (2 ∷ []) $ fsplit ! $ fsplit ! $ move ! (1 ∷ []) $ feqL ! (λ l5-3. move ! (0 ∷ 8 ∷ 9 ∷ 10 ∷ []) $ back-slice ! tt u8 (named 3) (a .1 .1 .1 .0 .ptr .0) (a .1 .1 .1 .0 .ptr .1) (x .5) (ws5 .1 .1 .1 .0) (sliceVal (a .1 .1 .1 .0 .ptr) (length output)) l5-3 (ap (sliceVal (a .1 .1 .1 .0 .ptr)) (sym (x .6 .1 .1 .1 .1 .0))) (subst (Room u8) (sym (x .6 .1 .1 .1 .1 .0)) room-output) $ move ! (2 ∷ []) $ fsplit ! $ drop ! $ drop ! $
-        land ! (from ! (stop !)) (store ! 28 refl (window-typed 𝓤 H A W (r5) (is5))) $
+        move ! (6 ∷ 7 ∷ []) $ lend-slice ! tt u8 (named 3) (named 3) (a .1 .1 .1 .0 .ptr .0) (a .1 .1 .1 .0 .ptr .1) (x .5) (sliceVal (a .1 .1 .1 .0 .ptr) (length output)) (λ ν-answer-next-output δ-answer-next-output.
+        move ! (8 ∷ 9 ∷ []) $ lend-slice ! tt u8 (named 2) (named 2) (a .1 .1 .0 .ptr .0) (a .1 .1 .0 .ptr .1) (x .4) (sliceVal (a .1 .1 .0 .ptr) (length input)) (λ ν-answer-next-input δ-answer-next-input.
+        move ! (10 ∷ 11 ∷ []) $ lend-ref ! tt u64 (named 1) (named 1) (a .1 .0 .ptr .0) (a .1 .0 .ptr .1) (x .3) (λ ν-answer-next-clock δ-answer-next-clock.
+        move ! (12 ∷ 13 ∷ []) $ lend-slice ! tt Slot-t.the-row (named 0) (named 0) (a .0 .ptr .0) (a .0 .ptr .1) (x .2) (sliceVal (a .0 .ptr) (length slots)) (λ ν-answer-next-slots δ-answer-next-slots.
+        nothing ! $ move ! (14 ∷ 0 ∷ []) $ join ! $ move ! (10 ∷ 0 ∷ []) $ join ! $ move ! (6 ∷ 0 ∷ []) $ join ! $ move ! (2 ∷ 0 ∷ []) $ join ! $ nothing ! $ owned ! Window-t.the-row (Is Window-t.the-row) (window-row .makes 𝓤 H A W) (x .0) _ (x .6 .0) $ fjoin ! $ move ! (11 ∷ 0 ∷ []) $ fjoin ! $ move ! (8 ∷ 0 ∷ []) $ fjoin ! $ move ! (5 ∷ 0 ∷ []) $ fjoin ! $ move ! (2 ∷ 0 ∷ []) $ fjoin ! $ move ! (1 ∷ 0 ∷ []) $
+        calls-any ! fm answer-next.ended (answer-next.clauses 𝓤 H A mem run) (ν-answer-next-slots ∷ [], (ν-answer-next-clock ∷ [], (ν-answer-next-input ∷ [], (ν-answer-next-output ∷ [], tt)))) (fullShare, (fullShare, (fullShare, (fullShare, tt)))) tt window-row (ref (a .0 .ptr .0) (a .0 .ptr .1) δ-answer-next-slots (x .2), (ref (a .1 .0 .ptr .0) (a .1 .0 .ptr .1) δ-answer-next-clock (x .3), (ref (a .1 .1 .0 .ptr .0) (a .1 .1 .0 .ptr .1) δ-answer-next-input (x .4), (ref (a .1 .1 .1 .0 .ptr .0) (a .1 .1 .1 .0 .ptr .1) δ-answer-next-output (x .5), ((x .0), tt))))) (sliceVal (a .0 .ptr) (length slots) ∷ [], (vptr (a .1 .0 .ptr .0) (a .1 .0 .ptr .1) ∷ [], (sliceVal (a .1 .1 .0 .ptr) (length input) ∷ [], (sliceVal (a .1 .1 .1 .0 .ptr) (length output) ∷ [], (window-row .val (x .0) ∷ [], tt))))) tt (λ r ws. Unit {0}) known-answer-next (asks-none 𝓤 H A) (λ r ws. tells-none 𝓤)
+        (and-then ! (load ! (from ! (stop !)) (look ! 19 refl)) (and-then ! (load ! (from ! (stop !)) (look ! 17 refl)) (and-then ! (load ! (from ! (stop !)) (look ! 13 refl)) (and-then ! (load ! (from ! (stop !)) (look ! 9 refl)) (and-then ! (load ! (from ! (stop !)) (look ! 29 refl)) (no-more !)))))) (λ r-answer-next ws-answer-next is-answer-next e-answer-next.
+        split ! $ move ! (1 ∷ []) $ split ! $ move ! (1 ∷ []) $ split ! $ move ! (1 ∷ []) $ split ! $ move ! (1 ∷ []) $ drop ! $ move ! (4 ∷ []) $ fsplit ! $ fsplit ! $ move ! (1 ∷ []) $ feqL ! (λ l-answer-next-slots. move ! (0 ∷ 5 ∷ 6 ∷ 7 ∷ []) $ back-slice ! tt Slot-t.the-row (named 0) (a .0 .ptr .0) (a .0 .ptr .1) (x .2) (ws-answer-next .0) (sliceVal (a .0 .ptr) (length slots)) l-answer-next-slots (ap (sliceVal (a .0 .ptr)) (sym (x .6 .1 .1 .0))) (subst (Room Slot-t.the-row) (sym (x .6 .1 .1 .0)) room-slots) $ move ! (2 ∷ []) $ fsplit ! $ move ! (0 ∷ 6 ∷ 7 ∷ 8 ∷ []) $ back-ref ! tt u64 (named 1) (a .1 .0 .ptr .0) (a .1 .0 .ptr .1) (x .3) (ws-answer-next .1 .0) $ move ! (2 ∷ []) $ fsplit ! $ fsplit ! $ move ! (1 ∷ []) $ feqL ! (λ l-answer-next-input. move ! (0 ∷ 7 ∷ 8 ∷ 9 ∷ []) $ back-slice ! tt u8 (named 2) (a .1 .1 .0 .ptr .0) (a .1 .1 .0 .ptr .1) (x .4) (ws-answer-next .1 .1 .0) (sliceVal (a .1 .1 .0 .ptr) (length input)) l-answer-next-input (ap (sliceVal (a .1 .1 .0 .ptr)) (sym (x .6 .1 .1 .1 .0))) (subst (Room u8) (sym (x .6 .1 .1 .1 .0)) room-input) $ move ! (2 ∷ []) $ fsplit ! $ fsplit ! $ move ! (1 ∷ []) $ feqL ! (λ l-answer-next-output. move ! (0 ∷ 8 ∷ 9 ∷ 10 ∷ []) $ back-slice ! tt u8 (named 3) (a .1 .1 .1 .0 .ptr .0) (a .1 .1 .1 .0 .ptr .1) (x .5) (ws-answer-next .1 .1 .1 .0) (sliceVal (a .1 .1 .1 .0 .ptr) (length output)) l-answer-next-output (ap (sliceVal (a .1 .1 .1 .0 .ptr)) (sym (x .6 .1 .1 .1 .1 .0))) (subst (Room u8) (sym (x .6 .1 .1 .1 .1 .0)) room-output) $ move ! (2 ∷ []) $ fsplit ! $ drop ! $ drop ! $
+        land ! (from ! (stop !)) (store ! 28 refl (window-typed 𝓤 H A W r-answer-next is-answer-next)) $
         -- `turns_after`
-        calls-value ! fm (uint-row w64) (turns-after.clauses 𝓤 H A mem run) (λ r. _) (uint-row w64, (window-row, tt)) ((x .1), (r5, tt)) tt known-turns-after ((refl, (x .6 .1 .0)), (is5, tt)) (shown 𝓤 H A (ltb→lt 0 (x .1) less)) (λ r ws. id⊢ 𝓤 _)
-        (and-then ! (load ! (from ! (stop !)) (look ! 27 refl)) (and-then ! (load ! (from ! (stop !)) (look ! 29 refl)) (no-more !))) (λ r7 is7 e7. land ! (from ! (stop !)) (init ! 24 refl (tt, record { fits = is7 .1 })) $
-        assigns-last ! (of-opd ! (load ! (from ! (stop !)) (look ! 24 refl))) (from ! (stop !)) (store ! 26 refl (tt, record { fits = is7 .1 })) $
+        calls-value ! fm (uint-row w64) (turns-after.clauses 𝓤 H A mem run) (λ r. _) (uint-row w64, (window-row, tt)) ((x .1), (r-answer-next, tt)) tt known-turns-after ((refl, (x .6 .1 .0)), (is-answer-next, tt)) (shown 𝓤 H A (ltb→lt 0 (x .1) less)) (λ r ws. id⊢ 𝓤 _)
+        (and-then ! (load ! (from ! (stop !)) (look ! 27 refl)) (and-then ! (load ! (from ! (stop !)) (look ! 29 refl)) (no-more !))) (λ r-turns-after is-turns-after e-turns-after. land ! (from ! (stop !)) (init ! 24 refl (tt, record { fits = is-turns-after .1 })) $
+        assigns-last ! (of-opd ! (load ! (from ! (stop !)) (look ! 24 refl))) (from ! (stop !)) (store ! 26 refl (tt, record { fits = is-turns-after .1 })) $
         forget ! 8 refl $ forget ! 10 refl $ forget ! 12 refl $ forget ! 14 refl $ forget ! 16 refl $ forget ! 18 refl $ forget ! 20 refl $ forget ! 22 refl $ forget ! 24 refl $
         move ! (6 ∷ 7 ∷ 4 ∷ 5 ∷ 2 ∷ 3 ∷ 0 ∷ 1 ∷ []) $
-        again (r5, r7, (ws5 .0), (ws5 .1 .0), (ws5 .1 .1 .0), (ws5 .1 .1 .1 .0), (is5, (is7 .1, ((l5-0 ∙ (x .6 .1 .1 .0)), ((l5-2 ∙ (x .6 .1 .1 .1 .0)), ((l5-3 ∙ (x .6 .1 .1 .1 .1 .0)), tt)))))) e7))))))))))
+        again (r-answer-next, r-turns-after, (ws-answer-next .0), (ws-answer-next .1 .0), (ws-answer-next .1 .1 .0), (ws-answer-next .1 .1 .1 .0), (is-answer-next, (is-turns-after .1, ((l-answer-next-slots ∙ (x .6 .1 .1 .0)), ((l-answer-next-input ∙ (x .6 .1 .1 .1 .0)), ((l-answer-next-output ∙ (x .6 .1 .1 .1 .1 .0)), tt)))))) e-turns-after))))))))))
         (λ over. leave _ (
         -- `is_end`
-        calls-value ! fm (bool-row) (is-end.clauses 𝓤 H A mem run) (λ r. Unit {0}) (window-row, tt) ((x .0), tt) tt known-is-end ((x .6 .0), tt) (asks-none 𝓤 H A) (λ r ws. tells-none 𝓤)
-        (and-then ! (load ! (from ! (stop !)) (look ! 29 refl)) (no-more !)) (λ r0 is0 e0. land ! (from ! (stop !)) (init ! 38 refl (tt, tt)) $
+        calls-value ! fm bool-row (is-end.clauses 𝓤 H A mem run) (λ r. Unit {0}) (window-row, tt) ((x .0), tt) tt known-is-end ((x .6 .0), tt) (asks-none 𝓤 H A) (λ r ws. tells-none 𝓤)
+        (and-then ! (load ! (from ! (stop !)) (look ! 29 refl)) (no-more !)) (λ r-is-end is-is-end e-is-end. land ! (from ! (stop !)) (init ! 38 refl (tt, tt)) $
         returns ! (look ! 38 refl) $ out ! 38 refl refl $ out ! 36 refl refl $ out ! 34 refl refl $ out ! 32 refl refl $ out ! 30 refl refl $ out ! 28 refl refl $ out ! 26 refl refl $ out-room ! 24 refl refl $ out ! 22 refl refl $ out-room ! 20 refl refl $ out-room ! 18 refl refl $ out-room ! 16 refl refl $ out-room ! 14 refl refl $ out-room ! 12 refl refl $ out-room ! 10 refl refl $ out-room ! 8 refl refl $ free0 ! $
-        keep ! (0 ∷ 1 ∷ 2 ∷ 3 ∷ 4 ∷ 5 ∷ 6 ∷ 7 ∷ []) $ by ! (exits (r0) ((x .2)) ((x .3)) ((x .4)) ((x .5)) tt (x .6 .1 .1 .0) (x .6 .1 .1 .1 .0) (x .6 .1 .1 .1 .1 .0) refl)))))
-        (r5, (2 ^ 64 - 1), slots, now-clock, input, output, (is5, (lit< tt, (refl, (refl, (refl, tt)))))))))))))))))))))))
+        keep ! (0 ∷ 1 ∷ 2 ∷ 3 ∷ 4 ∷ 5 ∷ 6 ∷ 7 ∷ []) $ by ! (exits r-is-end (x .2) (x .3) (x .4) (x .5) tt (x .6 .1 .1 .0) (x .6 .1 .1 .1 .0) (x .6 .1 .1 .1 .1 .0) refl)))))
+        (r-first-window, (2 ^ 64 - 1), slots, now-clock, input, output, (is-first-window, (lit< tt, (refl, (refl, (refl, tt)))))))))))))))))))))))
 
 pub serve-spec : {M : Type 1} → stated.statement M
 unfolding code.routine tablesOf

@@ -1,10 +1,9 @@
--- `calls::write_listing` meets its contract: a walk of its MIR, by hand.
-use Rattle.slots.proofs.Pre.{ℕ, _<_, _^_, _-_, ftrue, flft, SProp, ent, emp, via, fst∗, id⊢, Lfts, Shares, Fun, givenOf, tables, u64, yes, Is, uint-vals, uint-tells, Nothing, Boolean, bool-vals, bool-tells, owns, plain, sliceVal, Room, slice-vals, ShrSlice, shr-slice-tells, owned, nothing, onEntry, Args, Vals, Triple, cited, says, needs, Stays, stay-none, walkOf, goes-none, ends-at, walked, stay-none-slice, goes-none-slice, Atoms, fullShare, URA, lit<, length, set, getD, replicate, Bool, [], _∷_, List, refl, sym, _≡_, _∙_, ap, subst, named, w64, w8, Val, vunit, vint, vbool, arith, Memory, Routine, Heap, Calls, Loops, WpFn, FmC, Given, feqL, ‵, _⊛_, ⋆, _$_, _∵_, !, qed, by, move, drop, split, join, fsplit, fjoin, suffices, frame, done, keep, Item, agg, look, init, stop, from, load, lit, unit-lit, of-opd, assigns, returns, enter, alloc1, alloc0, params1, pass1, pass0, free0, and-then, no-more, land, addr}
-use Rattle.slots.proofs.Walk.{says-none, tells-none, uint-row, unit-row, bool-row, ref, shown, asks-none, array-row, is-repeat, repeats, big-lit, Of, tokens, calls-any, calls-value, out, tells-none, says-none, framed-calls, finish}
-use Rattle.slots.proofs.Lends.{copy-slice, lend-array-at, back-array-at, show-array-at, hide-array-at}
+-- `calls::write_listing` meets its contract: a walk of its MIR, made by tools/rewalk.
+use Rattle.walk.proofs.Pre.{ℕ, _<_, _^_, _-_, ftrue, flft, SProp, ent, emp, via, fst∗, id⊢, Lfts, Shares, Fun, givenOf, tables, u64, yes, Is, uint-vals, uint-tells, Nothing, Boolean, bool-vals, bool-tells, owns, plain, sliceVal, Room, slice-vals, ShrSlice, shr-slice-tells, owned, nothing, onEntry, Args, Vals, Triple, cited, says, Stays, stay-none, walkOf, goes-none, ends-at, walked, stay-none-slice, goes-none-slice, Atoms, fullShare, URA, lit<, length, replicate, Bool, [], _∷_, List, refl, named, w64, w8, Val, vunit, vint, vbool, Memory, Routine, Heap, Calls, Loops, WpFn, FmC, Given, feqL, ‵, _⊛_, ⋆, _$_, _∵_, !, qed, by, move, drop, split, join, fsplit, fjoin, suffices, frame, done, keep, Item, agg, look, init, stop, from, load, lit, unit-lit, of-opd, assigns, returns, enter, alloc1, alloc0, params1, pass1, pass0, free0, and-then, no-more, land, addr}
+use Rattle.walk.proofs.Walk.{uint-row, unit-row, bool-row, ref, asks-none, array-row, is-repeat, repeats, big-lit, Of, tokens, calls-any, calls-value, out, tells-none, says-none, framed-calls, finish}
+use Rattle.walk.proofs.Lends.{copy-slice, lend-array-at, back-array-at, show-array-at, hide-array-at}
 use Rattle.listing.proofs.Rows.{listed-row, listed-typed}
 use Rattle.listing.specs.declared.Listed.{Listed}
-use Rattle.listing.proofs.Listed as Listed-t
 use Rattle.table.specs.declared.Slot.{Slot}
 use Rattle.table.proofs.Slot as Slot-t
 use Rattle.listing.proofs.list as list
@@ -34,11 +33,11 @@ module _ {M : Type 1} (𝓤 : URA M) (H : Heap 𝓤) (A : Atoms 𝓤) (W : Given
   abbrev clock : ℕ
   clock = a .1 .0
 
-  abbrev served : Bool
-  served = a .1 .1 .0
+  abbrev is-served : Bool
+  is-served = a .1 .1 .0
 
   abbrev at : Vals write-listing.signature κs
-  at = (sliceVal (a .0 .ptr) (length slots) ∷ [], (vint w64 clock ∷ [], (vbool served ∷ [], tt)))
+  at = (sliceVal (a .0 .ptr) (length slots) ∷ [], (vint w64 clock ∷ [], (vbool is-served ∷ [], tt)))
 
   abbrev Own-slots : List Slot → Item 𝓤
   Own-slots v = ‵ (ShrSlice (named 0) (κs .0) Slot-t.the-row .own (ref (a .0 .ptr .0) (a .0 .ptr .1) (a .0 .name) v) (sliceVal (a .0 .ptr) (length slots) ∷ []))
@@ -53,54 +52,54 @@ module _ {M : Type 1} (𝓤 : URA M) (H : Heap 𝓤) (A : Atoms 𝓤) (W : Given
   abbrev Said : Unit {0} → Type 0
   Said r = Unit {0}
 
-  exits : (r : Unit {0}) → Said r → Is Nothing (r) (vunit ∷ [])
-      → ent 𝓤 (⋆ 𝓤 H A (Own-slots slots ∷ t0 ∷ [])) (Post (vunit))
+  exits : (r : Unit {0}) → Said r → Is Nothing r (vunit ∷ [])
+      → ent 𝓤 (⋆ 𝓤 H A (Own-slots slots ∷ t0 ∷ [])) (Post vunit)
   exits r e is =
       qed W (Own-slots slots ∷ t0 ∷ []) ∵
-      suffices ! _ (ends-at 𝓤 H A write-listing.ended stayed (write-listing.clauses 𝓤 H A mem run) W ((κs, qs, tt, a, at), tt) (vunit) r (tt, (tt, (tt, tt))) (tt, (tt, (tt, tt)))) $ says-none ! $
+      suffices ! _ (ends-at 𝓤 H A write-listing.ended stayed (write-listing.clauses 𝓤 H A mem run) W ((κs, qs, tt, a, at), tt) vunit r (tt, (tt, (tt, tt))) (tt, (tt, (tt, tt)))) $ says-none ! $
       nothing ! $ move ! (2 ∷ 0 ∷ []) $ join ! $ frame ! $
-      nothing ! $ owned ! Boolean (Is Boolean) ((bool-row) .makes 𝓤 H A W) served _ refl $ fjoin ! $ owned ! u64 (Is u64) ((uint-row w64) .makes 𝓤 H A W) clock _ (refl, g-clock) $ fjoin ! $ move ! (1 ∷ 0 ∷ []) $ fjoin ! $ frame ! $ owned ! Nothing (Is Nothing) ((unit-row) .makes 𝓤 H A W) r _ is $ done !
+      nothing ! $ owned ! Boolean (Is Boolean) (bool-row .makes 𝓤 H A W) is-served _ refl $ fjoin ! $ owned ! u64 (Is u64) ((uint-row w64) .makes 𝓤 H A W) clock _ (refl, g-clock) $ fjoin ! $ move ! (1 ∷ 0 ∷ []) $ fjoin ! $ frame ! $ owned ! Nothing (Is Nothing) (unit-row .makes 𝓤 H A W) r _ is $ done !
 
   module _ (C : Calls 𝓤 H) (Λ : Loops 𝓤 H) (fm : FmC 𝓤 H (W .laws) C) (known-list : Triple 𝓤 (C #listing·list) (Of 𝓤 H A list.ended (list.clauses 𝓤 H A mem run))) (known-shown-of : Triple 𝓤 (C #calls·shown-of) (Of 𝓤 H A shown-of.ended (shown-of.clauses 𝓤 H A mem run))) (known-write-front : Triple 𝓤 (C #calls·write-front) (Of 𝓤 H A write-front.ended (write-front.clauses 𝓤 H A mem run))) where
-    walk : Room Slot-t.the-row (length slots) → ent 𝓤 (onEntry 𝓤 H A write-listing.signature κs qs a at) (WpFn 𝓤 H C Λ code.function (sliceVal (a .0 .ptr) (length slots) ∷ vint w64 clock ∷ vbool served ∷ []) Post)
+    walk : Room Slot-t.the-row (length slots) → ent 𝓤 (onEntry 𝓤 H A write-listing.signature κs qs a at) (WpFn 𝓤 H C Λ code.function (sliceVal (a .0 .ptr) (length slots) ∷ vint w64 clock ∷ vbool is-served ∷ []) Post)
     walk room-slots =
         qed W ((t0 ⊛ ‵ ftrue) ∷ ‵ (owns (ShrSlice (named 0) (κs .0) Slot-t.the-row ∷ u64 ∷ Boolean ∷ []) a at) ∷ []) ∵
         split ! $ move ! (2 ∷ []) $ fsplit ! $ move ! (1 ∷ []) $ fsplit ! $ drop ! $ fsplit ! $ drop ! $ keep ! (1 ∷ 2 ∷ []) $
-        enter ! C Λ code.function (sliceVal (a .0 .ptr) (length slots) ∷ vint w64 clock ∷ vbool served ∷ []) _ $
+        enter ! C Λ code.function (sliceVal (a .0 .ptr) (length slots) ∷ vint w64 clock ∷ vbool is-served ∷ []) _ $
         alloc1 ! (λ l₀. alloc1 ! (λ l₁. alloc1 ! (λ l₂. alloc1 ! (λ l₃. alloc1 ! (λ l₄. alloc1 ! (λ l₅. alloc1 ! (λ l₆. alloc1 ! (λ l₇. alloc1 ! (λ l₈. alloc1 ! (λ l₉. alloc1 ! (λ l₁₀. alloc1 ! (λ l₁₁. alloc0 ! $ params1 ! $
         pass1 ! (init ! 20 refl (tt, (tt, (record { fits = room-slots .0 }, tt)))) $ pass1 ! (init ! 18 refl (tt, record { fits = g-clock })) $ pass1 ! (init ! 16 refl (tt, tt)) $ pass0 ! $
         -- the references and their tokens first: from here local k stands at 24 - 2 k
         move ! (24 ∷ 25 ∷ []) $
-        assigns ! (repeats ! (uint-row w8) 131072 0 (lit ! tt)) (from ! (stop !)) (init ! 16 refl ((array-row (uint-row w8) 131072) .lawful 𝓤 H A W .typed ((replicate 131072 0)) _ ((is-repeat (uint-row w8) 131072 0 (refl, lit< tt))) .0)) $
+        assigns ! (repeats ! (uint-row w8) 131072 0 (lit ! tt)) (from ! (stop !)) (init ! 16 refl ((array-row (uint-row w8) 131072) .lawful 𝓤 H A W .typed (replicate 131072 0) _ (is-repeat (uint-row w8) 131072 0 (refl, lit< tt)) .0)) $
         assigns ! (addr ! (from ! (stop !))) (from ! (stop !)) (init ! 12 refl (tt, tt)) $
         assigns ! (agg ! (and-then ! (load ! (from ! (stop !)) (look ! 12 refl)) (and-then ! (big-lit ! (lit< tt)) (no-more !)))) (from ! (stop !)) (init ! 10 refl (tt, (tt, (record { fits = lit< tt }, tt)))) $
         -- `list`
-        lend-array-at ! 16 tt (uint-row w8) tt 131072 (named 1) (replicate 131072 0) (is-repeat (uint-row w8) 131072 0 (refl, lit< tt)) (lit< tt, lit< tt) l₄ 0 refl (λ ν₅-2 δ₅-2 len₅-2.
+        lend-array-at ! 16 tt (uint-row w8) tt 131072 (named 1) (replicate 131072 0) (is-repeat (uint-row w8) 131072 0 (refl, lit< tt)) (lit< tt, lit< tt) l₄ 0 refl (λ ν-list-output δ-list-output len-list-output.
         move ! (2 ∷ 3 ∷ []) $ copy-slice ! Slot-t.the-row (named 0) (a .0 .ptr .0) (a .0 .ptr .1) slots (sliceVal (a .0 .ptr) (length slots)) $
         nothing ! $ move ! (6 ∷ 0 ∷ []) $ join ! $ move ! (2 ∷ 0 ∷ []) $ join ! $ nothing ! $ move ! (5 ∷ 0 ∷ []) $ fjoin ! $ owned ! u64 (Is u64) ((uint-row w64) .makes 𝓤 H A W) clock _ (refl, g-clock) $ fjoin ! $ move ! (2 ∷ 0 ∷ []) $ fjoin ! $ move ! (1 ∷ 0 ∷ []) $
-        calls-any ! fm list.ended (list.clauses 𝓤 H A mem run) (κs .0, (ν₅-2 ∷ [], tt)) (qs .0, (fullShare, tt)) tt (listed-row) (ref (a .0 .ptr .0) (a .0 .ptr .1) (a .0 .name) slots, (clock, (ref l₄ 0 δ₅-2 (replicate 131072 0), tt))) (sliceVal (a .0 .ptr) (length slots) ∷ [], (vint w64 clock ∷ [], (sliceVal (l₄, 0) 131072 ∷ [], tt))) tt (λ r ws. _) known-list (asks-none 𝓤 H A) (λ r ws. id⊢ 𝓤 _)
-        (and-then ! (load ! (from ! (stop !)) (look ! 23 refl)) (and-then ! (load ! (from ! (stop !)) (look ! 21 refl)) (and-then ! (load ! (from ! (stop !)) (look ! 11 refl)) (no-more !)))) (λ r5 ws5 is5 e5.
-        split ! $ move ! (1 ∷ []) $ split ! $ move ! (1 ∷ []) $ drop ! $ move ! (2 ∷ []) $ fsplit ! $ drop ! $ move ! (2 ∷ 3 ∷ 4 ∷ []) $ move ! (1 ∷ 0 ∷ 2 ∷ []) $ move ! (2 ∷ []) $ drop ! $ move ! (2 ∷ []) $ fsplit ! $ drop ! $ fsplit ! $ fsplit ! $ move ! (1 ∷ []) $ feqL ! (λ l5-2. move ! (0 ∷ 4 ∷ []) $
-        back-array-at ! 17 tt (uint-row w8) tt 131072 (ws5 .1 .1 .0) l₄ 0 refl (λ back₅-2.
+        calls-any ! fm list.ended (list.clauses 𝓤 H A mem run) (κs .0, (ν-list-output ∷ [], tt)) (qs .0, (fullShare, tt)) tt listed-row (ref (a .0 .ptr .0) (a .0 .ptr .1) (a .0 .name) slots, (clock, (ref l₄ 0 δ-list-output (replicate 131072 0), tt))) (sliceVal (a .0 .ptr) (length slots) ∷ [], (vint w64 clock ∷ [], (sliceVal (l₄, 0) 131072 ∷ [], tt))) tt (λ r ws. _) known-list (asks-none 𝓤 H A) (λ r ws. id⊢ 𝓤 _)
+        (and-then ! (load ! (from ! (stop !)) (look ! 23 refl)) (and-then ! (load ! (from ! (stop !)) (look ! 21 refl)) (and-then ! (load ! (from ! (stop !)) (look ! 11 refl)) (no-more !)))) (λ r-list ws-list is-list e-list.
+        split ! $ move ! (1 ∷ []) $ split ! $ move ! (1 ∷ []) $ drop ! $ move ! (2 ∷ []) $ fsplit ! $ drop ! $ move ! (2 ∷ 3 ∷ 4 ∷ []) $ move ! (1 ∷ 0 ∷ 2 ∷ []) $ move ! (2 ∷ []) $ drop ! $ move ! (2 ∷ []) $ fsplit ! $ drop ! $ fsplit ! $ fsplit ! $ move ! (1 ∷ []) $ feqL ! (λ l-list-output. move ! (0 ∷ 4 ∷ []) $
+        back-array-at ! 17 tt (uint-row w8) tt 131072 (ws-list .1 .1 .0) l₄ 0 refl (λ back-list-output.
         drop ! $
-        land ! (from ! (stop !)) (init ! 14 refl (listed-typed 𝓤 H A W (r5) (is5))) $
+        land ! (from ! (stop !)) (init ! 14 refl (listed-typed 𝓤 H A W r-list is-list)) $
         assigns ! (addr ! (from ! (stop !))) (from ! (stop !)) (init ! 6 refl (tt, tt)) $
         assigns ! (agg ! (and-then ! (load ! (from ! (stop !)) (look ! 6 refl)) (and-then ! (big-lit ! (lit< tt)) (no-more !)))) (from ! (stop !)) (init ! 4 refl (tt, (tt, (record { fits = lit< tt }, tt)))) $
         -- `shown_of`
-        calls-value ! fm (uint-row w64) (shown-of.clauses 𝓤 H A mem run) (λ r. Unit {0}) (listed-row, (bool-row, tt)) (r5, (served, tt)) tt known-shown-of (is5, (refl, tt)) (asks-none 𝓤 H A) (λ r ws. tells-none 𝓤)
-        (and-then ! (load ! (from ! (stop !)) (look ! 15 refl)) (and-then ! (load ! (from ! (stop !)) (look ! 19 refl)) (no-more !))) (λ r11 is11 e11. land ! (from ! (stop !)) (init ! 2 refl (tt, record { fits = is11 .1 })) $
+        calls-value ! fm (uint-row w64) (shown-of.clauses 𝓤 H A mem run) (λ r. Unit {0}) (listed-row, (bool-row, tt)) (r-list, (is-served, tt)) tt known-shown-of (is-list, (refl, tt)) (asks-none 𝓤 H A) (λ r ws. tells-none 𝓤)
+        (and-then ! (load ! (from ! (stop !)) (look ! 15 refl)) (and-then ! (load ! (from ! (stop !)) (look ! 19 refl)) (no-more !))) (λ r-shown-of is-shown-of e-shown-of. land ! (from ! (stop !)) (init ! 2 refl (tt, record { fits = is-shown-of .1 })) $
         -- `write_front`
-        show-array-at ! 16 tt (uint-row w8) tt 131072 (named 0) (ws5 .1 .1 .0) back₅-2 (lit< tt, lit< tt) l₄ 0 refl (λ ν₈-0 δ₈-0 len₈-0.
-        nothing ! $ move ! (2 ∷ 0 ∷ []) $ join ! $ nothing ! $ owned ! u64 (Is u64) ((uint-row w64) .makes 𝓤 H A W) r11 _ (refl, is11 .1) $ fjoin ! $ move ! (2 ∷ 0 ∷ []) $ fjoin ! $ move ! (1 ∷ 0 ∷ []) $
-        calls-any ! fm write-front.ended (write-front.clauses 𝓤 H A mem run) (ν₈-0 ∷ [], tt) (fullShare, tt) tt (bool-row) (ref l₄ 0 δ₈-0 (ws5 .1 .1 .0), (r11, tt)) (sliceVal (l₄, 0) 131072 ∷ [], (vint w64 r11 ∷ [], tt)) tt (λ r ws. Unit {0}) known-write-front (asks-none 𝓤 H A) (λ r ws. tells-none 𝓤)
-        (and-then ! (load ! (from ! (stop !)) (look ! 5 refl)) (and-then ! (load ! (from ! (stop !)) (look ! 3 refl)) (no-more !))) (λ r8 ws8 is8 e8.
+        show-array-at ! 16 tt (uint-row w8) tt 131072 (named 0) (ws-list .1 .1 .0) back-list-output (lit< tt, lit< tt) l₄ 0 refl (λ ν-write-front-output δ-write-front-output len-write-front-output.
+        nothing ! $ move ! (2 ∷ 0 ∷ []) $ join ! $ nothing ! $ owned ! u64 (Is u64) ((uint-row w64) .makes 𝓤 H A W) r-shown-of _ (refl, is-shown-of .1) $ fjoin ! $ move ! (2 ∷ 0 ∷ []) $ fjoin ! $ move ! (1 ∷ 0 ∷ []) $
+        calls-any ! fm write-front.ended (write-front.clauses 𝓤 H A mem run) (ν-write-front-output ∷ [], tt) (fullShare, tt) tt bool-row (ref l₄ 0 δ-write-front-output (ws-list .1 .1 .0), (r-shown-of, tt)) (sliceVal (l₄, 0) 131072 ∷ [], (vint w64 r-shown-of ∷ [], tt)) tt (λ r ws. Unit {0}) known-write-front (asks-none 𝓤 H A) (λ r ws. tells-none 𝓤)
+        (and-then ! (load ! (from ! (stop !)) (look ! 5 refl)) (and-then ! (load ! (from ! (stop !)) (look ! 3 refl)) (no-more !))) (λ r-write-front ws-write-front is-write-front e-write-front.
         split ! $ move ! (1 ∷ []) $ drop ! $ move ! (1 ∷ []) $ fsplit ! $ drop ! $ move ! (1 ∷ []) $
-        hide-array-at ! 17 tt (uint-row w8) tt 131072 (ws5 .1 .1 .0) l₄ 0 refl len₈-0 (λ back₈-0.
+        hide-array-at ! 17 tt (uint-row w8) tt 131072 (ws-list .1 .1 .0) l₄ 0 refl len-write-front-output (λ back-write-front-output.
         fsplit ! $ drop ! $ drop ! $
         land ! (from ! (stop !)) (init ! 8 refl (tt, tt)) $
         assigns ! (of-opd ! (unit-lit !)) (from ! (stop !)) (init ! 24 refl (tt, tt)) $
         returns ! (look ! 24 refl) $ out ! 24 refl refl $ out ! 22 refl refl $ out ! 20 refl refl $ out ! 18 refl refl $ out ! 16 refl refl $ out ! 14 refl refl $ out ! 12 refl refl $ out ! 10 refl refl $ out ! 8 refl refl $ out ! 6 refl refl $ out ! 4 refl refl $ out ! 2 refl refl $ free0 ! $
-        keep ! (0 ∷ 1 ∷ []) $ by ! (exits (tt) tt refl)))))))))))))))))))))
+        keep ! (0 ∷ 1 ∷ []) $ by ! (exits tt tt refl)))))))))))))))))))))
 
 pub write-listing-spec : {M : Type 1} → stated.statement M
 unfolding code.routine

@@ -1,14 +1,11 @@
--- `listing::list` meets its contract: a walk of its MIR, by hand.
-use Rattle.slots.proofs.Pre.{ltb→lt, nltb→le, _≤_, _++_, dropᴸ, eqb, not, lit<, ℕ, _<_, _^_, _-_, ftrue, flft, SProp, ent, emp, via, fst∗, id⊢, Lfts, Shares, Fun, givenOf, tables, u64, u8, yes, Is, uint-vals, uint-tells, owns, plain, sliceVal, MutSlice, Room, slice-vals, mut-slice-tells, ShrSlice, shr-slice-tells, owned, nothing, onEntry, Args, Vals, Triple, cited, says, Stays, stay-slice, stay-none, walkOf, goes-slice, goes-none, ends-at, walked, stay-none-slice, goes-none-slice, Atoms, URA, length, [], _∷_, List, refl, sym, _≡_, _∙_, subst, named, w64, Val, vint, Memory, Routine, Heap, Calls, Loops, WpFn, FmC, Given, ‵, _⊛_, ⋆, _$_, _∵_, !, qed, by, move, drop, split, join, fsplit, fjoin, suffices, frame, done, keep, Item, whole, sub, look-in, agg, look, init, stop, hop, fld, from, load, lit, of-opd, bin, assigns, returns, enter, alloc1, alloc0, params1, pass1, pass0, free0, store, and-then, no-more, land, addr, returns-within}
-use Rattle.slots.proofs.Lends.{calls-shared, calls-both}
-use Rattle.slots.proofs.Walk.{uint-row, unit-row, ref, shown, asks-none, Of, tokens, out, out-room, guards, holds-true, fails-false, framed-calls, finish}
+-- `listing::list` meets its contract: a walk of its MIR, made by tools/rewalk.
+use Rattle.walk.proofs.Pre.{ℕ, _<_, _^_, _-_, _≤_, ftrue, flft, SProp, ent, emp, via, fst∗, id⊢, Lfts, Shares, Fun, givenOf, tables, u64, u8, yes, Is, uint-vals, uint-tells, owns, plain, sliceVal, MutSlice, Room, slice-vals, mut-slice-tells, ShrSlice, shr-slice-tells, owned, nothing, onEntry, Args, Vals, Triple, cited, says, Stays, stay-slice, stay-none, walkOf, goes-slice, goes-none, ends-at, walked, stay-none-slice, goes-none-slice, Atoms, URA, lit<, ltb→lt, nltb→le, eqb, length, not, [], _∷_, List, refl, sym, _≡_, _∙_, subst, named, w64, Val, vint, Memory, Routine, Heap, Calls, Loops, WpFn, FmC, Given, ‵, _⊛_, ⋆, _$_, _∵_, !, qed, by, move, drop, split, join, fsplit, fjoin, suffices, frame, done, keep, Item, whole, sub, look-in, agg, look, init, stop, hop, fld, from, load, lit, of-opd, bin, assigns, returns, enter, alloc1, alloc0, params1, pass1, pass0, free0, store, and-then, no-more, land, addr, returns-within}
+use Rattle.walk.proofs.Walk.{uint-row, unit-row, ref, shown, asks-none, Of, tokens, out, out-room, guards, holds-true, fails-false, framed-calls, finish}
+use Rattle.walk.proofs.Lends.{calls-shared, calls-both}
 use Rattle.listing.proofs.Rows.{listed-row, listed-typed, is-refused, is-length}
 use Rattle.listing.specs.declared.Listed.{Listed}
+use Rattle.listing.specs.declared.Listed.the-variants.{Length, Refused}
 use Rattle.listing.proofs.Listed as Listed-t
-use borrow.Author.Tests.{eqb-true, eqb-false, not-true, not-false}
-use Rattle.listing.specs.declared.Listed.the-variants.{Refused, Length}
-use Rattle.listing.specs.Listing.{listing, Lists}
-use Rattle.listing.proofs.Laws.{lists-count, lists-short, lists-whole}
 use Rattle.table.specs.declared.Slot.{Slot}
 use Rattle.table.proofs.Slot as Slot-t
 use Rattle.slots.proofs.slot_count as slot-count
@@ -23,6 +20,9 @@ use Rattle.listing.proofs.write_lines as write-lines
 use Rattle.listing.proofs.write_lines.Symbol as write-lines-def
 use Rattle.listing.proofs.write_lines.Symbol.{name as #listing·write-lines}
 use Rattle.listing.proofs.write_lines.Met as write-lines-thm
+use borrow.Author.Tests.{eqb-true, eqb-false, not-true, not-false}
+use Rattle.listing.specs.Listing.{Lists}
+use Rattle.listing.proofs.Laws.{lists-count, lists-short, lists-whole}
 use Rattle.listing.proofs.list.Key.{name as #listing·list}
 use Rattle.listing.proofs.list as list
 use Rattle.listing.proofs.list.Statement as stated
@@ -63,13 +63,13 @@ module _ {M : Type 1} (𝓤 : URA M) (H : Heap 𝓤) (A : Atoms 𝓤) (W : Given
   abbrev Said : Listed → List ℕ → Type 0
   Said r z-output = Lists clock slots output z-output r
 
-  exits : (r : Listed) (z-output : List ℕ) → Said r z-output → length z-output ≡ length output → Is Listed-t.the-row (r) (listed-row .val (r) ∷ [])
-      → ent 𝓤 (⋆ 𝓤 H A (Own-slots slots ∷ t0 ∷ Own-output z-output ∷ t1 ∷ [])) (Post (listed-row .val (r)))
+  exits : (r : Listed) (z-output : List ℕ) → Said r z-output → length z-output ≡ length output → Is Listed-t.the-row r (listed-row .val r ∷ [])
+      → ent 𝓤 (⋆ 𝓤 H A (Own-slots slots ∷ t0 ∷ Own-output z-output ∷ t1 ∷ [])) (Post (listed-row .val r))
   exits r z-output e l-output is =
       qed W (Own-slots slots ∷ t0 ∷ Own-output z-output ∷ t1 ∷ []) ∵
-      suffices ! _ (ends-at 𝓤 H A list.ended stayed (list.clauses 𝓤 H A mem run) W ((κs, qs, tt, a, at), tt) (listed-row .val (r)) r (tt, (tt, (z-output, tt))) (tt, (tt, (l-output, tt)))) $ says ! e $
+      suffices ! _ (ends-at 𝓤 H A list.ended stayed (list.clauses 𝓤 H A mem run) W ((κs, qs, tt, a, at), tt) (listed-row .val r) r (tt, (tt, (z-output, tt))) (tt, (tt, (l-output, tt)))) $ says ! e $
       nothing ! $ move ! (4 ∷ 0 ∷ []) $ join ! $ move ! (2 ∷ 0 ∷ []) $ join ! $ frame ! $
-      nothing ! $ move ! (2 ∷ 0 ∷ []) $ fjoin ! $ owned ! u64 (Is u64) ((uint-row w64) .makes 𝓤 H A W) clock _ (refl, g-clock) $ fjoin ! $ move ! (1 ∷ 0 ∷ []) $ fjoin ! $ frame ! $ owned ! Listed-t.the-row (Is Listed-t.the-row) ((listed-row) .makes 𝓤 H A W) r _ is $ done !
+      nothing ! $ move ! (2 ∷ 0 ∷ []) $ fjoin ! $ owned ! u64 (Is u64) ((uint-row w64) .makes 𝓤 H A W) clock _ (refl, g-clock) $ fjoin ! $ move ! (1 ∷ 0 ∷ []) $ fjoin ! $ frame ! $ owned ! Listed-t.the-row (Is Listed-t.the-row) (listed-row .makes 𝓤 H A W) r _ is $ done !
 
   module _ (C : Calls 𝓤 H) (Λ : Loops 𝓤 H) (fm : FmC 𝓤 H (W .laws) C) (known-slot-count : Triple 𝓤 (C #slots·slot-count) (Of 𝓤 H A slot-count.ended (slot-count.clauses 𝓤 H A mem run))) (known-text-size : Triple 𝓤 (C #listing·text-size) (Of 𝓤 H A text-size.ended (text-size.clauses 𝓤 H A mem run))) (known-write-lines : Triple 𝓤 (C #listing·write-lines) (Of 𝓤 H A write-lines.ended (write-lines.clauses 𝓤 H A mem run))) where
     walk : Room Slot-t.the-row (length slots) → Room u8 (length output) → ent 𝓤 (onEntry 𝓤 H A list.signature κs qs a at) (WpFn 𝓤 H C Λ code.function (sliceVal (a .0 .ptr) (length slots) ∷ vint w64 clock ∷ sliceVal (a .1 .1 .0 .ptr) (length output) ∷ []) Post)
@@ -82,38 +82,38 @@ module _ {M : Type 1} (𝓤 : URA M) (H : Heap 𝓤) (A : Atoms 𝓤) (W : Given
         -- the references and their tokens first: from here local k stands at 24 - 2 k
         move ! (22 ∷ 23 ∷ 24 ∷ 25 ∷ []) $
         -- `slot_count`
-        calls-shared ! fm Slot-t.the-row (uint-row w64) (slot-count.clauses 𝓤 H A mem run) (λ r. r ≡ length slots) (named 0) (a .0 .ptr .0) (a .0 .ptr .1) (slots) (sliceVal (a .0 .ptr) (length slots)) tt tt tt known-slot-count tt (asks-none 𝓤 H A) (λ r ws. id⊢ 𝓤 _)
-        (and-then ! (load ! (from ! (stop !)) (look ! 22 refl)) (no-more !)) (λ r4 is4 e4. land ! (from ! (stop !)) (init ! 16 refl (tt, record { fits = is4 .1 })) $
+        calls-shared ! fm Slot-t.the-row (uint-row w64) (slot-count.clauses 𝓤 H A mem run) (λ r. _) (named 0) (a .0 .ptr .0) (a .0 .ptr .1) slots (sliceVal (a .0 .ptr) (length slots)) tt tt tt known-slot-count tt (asks-none 𝓤 H A) (λ r ws. id⊢ 𝓤 _)
+        (and-then ! (load ! (from ! (stop !)) (look ! 22 refl)) (no-more !)) (λ r-slot-count is-slot-count e-slot-count. land ! (from ! (stop !)) (init ! 16 refl (tt, record { fits = is-slot-count .1 })) $
         assigns ! (bin ! (load ! (from ! (stop !)) (look ! 16 refl)) (lit ! tt) tt) (from ! (stop !)) (init ! 12 refl (tt, tt)) $
         guards ! (load ! (from ! (stop !)) (look ! 12 refl))
         (λ held.
-        assigns ! (agg ! (and-then ! (lit ! tt) (and-then ! (lit ! tt) (no-more !)))) (from ! (stop !)) (init ! 24 refl (listed-typed 𝓤 H A W (Refused 6) (is-refused 6 (lit< tt)))) $
+        assigns ! (agg ! (and-then ! (lit ! tt) (and-then ! (lit ! tt) (no-more !)))) (from ! (stop !)) (init ! 24 refl (listed-typed 𝓤 H A W (Refused (2 ^ 8 - 250)) (is-refused (2 ^ 8 - 250) (lit< tt)))) $
         returns-within ! Post refl (look ! 24 refl) $ out ! 24 refl refl $ out ! 22 refl refl $ out ! 20 refl refl $ out ! 18 refl refl $ out ! 16 refl refl $ out-room ! 14 refl refl $ out ! 12 refl refl $ out-room ! 10 refl refl $ out-room ! 8 refl refl $ out-room ! 6 refl refl $ out-room ! 4 refl refl $ free0 ! $
-        keep ! (0 ∷ 1 ∷ 2 ∷ 3 ∷ []) $ by ! (exits (Refused 6) (output) (lists-count (λ same. eqb-false r4 64 (not-true (eqb r4 64) (holds-true (not (eqb r4 64)) held)) (e4 ∙ same))) refl (is-refused 6 (lit< tt))))
+        keep ! (0 ∷ 1 ∷ 2 ∷ 3 ∷ []) $ by ! (exits (Refused (2 ^ 8 - 250)) output (lists-count (λ same. eqb-false r-slot-count 64 (not-true (eqb r-slot-count 64) (holds-true (not (eqb r-slot-count 64)) held)) (e-slot-count ∙ same))) refl (is-refused (2 ^ 8 - 250) (lit< tt))))
         (λ failed.
-        let same : length slots ≡ 64 = sym e4 ∙ eqb-true r4 64 (not-false (eqb r4 64) (fails-false (not (eqb r4 64)) failed)) in
+        let same : length slots ≡ 64 = sym e-slot-count ∙ eqb-true r-slot-count 64 (not-false (eqb r-slot-count 64) (fails-false (not (eqb r-slot-count 64)) failed)) in
         -- `text_size`
-        calls-shared ! fm Slot-t.the-row (uint-row w64) (text-size.clauses 𝓤 H A mem run) (λ r. r ≡ length (listing clock slots)) (named 0) (a .0 .ptr .0) (a .0 .ptr .1) (slots) (sliceVal (a .0 .ptr) (length slots)) (clock, tt) (uint-row w64, tt) tt known-text-size ((refl, g-clock), tt) (shown 𝓤 H A same) (λ r ws. id⊢ 𝓤 _)
-        (and-then ! (load ! (from ! (stop !)) (look ! 22 refl)) (and-then ! (load ! (from ! (stop !)) (look ! 20 refl)) (no-more !))) (λ r5 is5 e5. land ! (from ! (stop !)) (init ! 14 refl (tt, record { fits = is5 .1 })) $
+        calls-shared ! fm Slot-t.the-row (uint-row w64) (text-size.clauses 𝓤 H A mem run) (λ r. _) (named 0) (a .0 .ptr .0) (a .0 .ptr .1) slots (sliceVal (a .0 .ptr) (length slots)) (clock, tt) (uint-row w64, tt) tt known-text-size ((refl, g-clock), tt) (shown 𝓤 H A same) (λ r ws. id⊢ 𝓤 _)
+        (and-then ! (load ! (from ! (stop !)) (look ! 22 refl)) (and-then ! (load ! (from ! (stop !)) (look ! 20 refl)) (no-more !))) (λ r-text-size is-text-size e-text-size. land ! (from ! (stop !)) (init ! 14 refl (tt, record { fits = is-text-size .1 })) $
         assigns ! (of-opd ! (load ! (from ! (fld ! refl (stop !))) (look-in ! 18 (sub ! 1 refl (whole !))))) (from ! (stop !)) (init ! 10 refl (tt, record { fits = room-output .0 })) $
         assigns ! (bin ! (load ! (from ! (stop !)) (look ! 10 refl)) (load ! (from ! (stop !)) (look ! 14 refl)) tt) (from ! (stop !)) (store ! 12 refl (tt, tt)) $
         guards ! (load ! (from ! (stop !)) (look ! 12 refl))
         (λ held.
-        assigns ! (agg ! (and-then ! (lit ! tt) (and-then ! (lit ! tt) (no-more !)))) (from ! (stop !)) (init ! 24 refl (listed-typed 𝓤 H A W (Refused 8) (is-refused 8 (lit< tt)))) $
+        assigns ! (agg ! (and-then ! (lit ! tt) (and-then ! (lit ! tt) (no-more !)))) (from ! (stop !)) (init ! 24 refl (listed-typed 𝓤 H A W (Refused (2 ^ 8 - 248)) (is-refused (2 ^ 8 - 248) (lit< tt)))) $
         returns-within ! Post refl (look ! 24 refl) $ out ! 24 refl refl $ out ! 22 refl refl $ out ! 20 refl refl $ out ! 18 refl refl $ out ! 16 refl refl $ out ! 14 refl refl $ out ! 12 refl refl $ out ! 10 refl refl $ out-room ! 8 refl refl $ out-room ! 6 refl refl $ out-room ! 4 refl refl $ free0 ! $
-        keep ! (0 ∷ 1 ∷ 2 ∷ 3 ∷ []) $ by ! (exits (Refused 8) (output) (lists-short same e5 (ltb→lt (length output) r5 held)) refl (is-refused 8 (lit< tt))))
+        keep ! (0 ∷ 1 ∷ 2 ∷ 3 ∷ []) $ by ! (exits (Refused (2 ^ 8 - 248)) output (lists-short same e-text-size (ltb→lt (length output) r-text-size held)) refl (is-refused (2 ^ 8 - 248) (lit< tt))))
         (λ failed.
-        let fits : r5 ≤ length output = nltb→le (length output) r5 failed in
+        let fits : r-text-size ≤ length output = nltb→le (length output) r-text-size failed in
         assigns ! (addr ! (from ! (fld ! refl (hop ! (look-in ! 18 (sub ! 0 refl (whole !))) (stop !))))) (from ! (stop !)) (init ! 6 refl (tt, tt)) $
         assigns ! (agg ! (and-then ! (load ! (from ! (stop !)) (look ! 6 refl)) (and-then ! (load ! (from ! (fld ! refl (stop !))) (look-in ! 18 (sub ! 1 refl (whole !)))) (no-more !)))) (from ! (stop !)) (init ! 4 refl (tt, (tt, (record { fits = room-output .0 }, tt)))) $
         -- `write_lines`
         move ! (2 ∷ 3 ∷ []) $
         move ! (2 ∷ 3 ∷ []) $
-        calls-both ! fm Slot-t.the-row u8 (unit-row) (write-lines.clauses 𝓤 H A mem run) (λ r zs. zs ≡ listing clock slots ++ dropᴸ (length (listing clock slots)) output) (named 0) (a .0 .ptr .0) (a .0 .ptr .1) (slots) (sliceVal (a .0 .ptr) (length slots)) (named 1) (a .1 .1 .0 .ptr .0) (a .1 .1 .0 .ptr .1) (output) (sliceVal (a .1 .1 .0 .ptr) (length output)) (λ ν. (clock, tt)) (λ ν. (uint-row w64, tt)) (λ ν δ. tt) known-write-lines (λ ν. ((refl, g-clock), tt)) (λ ν δ. shown 𝓤 H A (subst (λ (m : ℕ). m ≤ length output) e5 fits)) (λ ν δ r ws. id⊢ 𝓤 _)
-        (λ ν δ. (and-then ! (load ! (from ! (stop !)) (look ! 22 refl)) (and-then ! (load ! (from ! (stop !)) (look ! 4 refl)) (and-then ! (load ! (from ! (stop !)) (look ! 20 refl)) (no-more !))))) (λ r8 zs8 l8 is8 e8. land ! (from ! (stop !)) (init ! 8 refl (tt, tt)) $
-        assigns ! (agg ! (and-then ! (lit ! tt) (and-then ! (load ! (from ! (stop !)) (look ! 14 refl)) (no-more !)))) (from ! (stop !)) (init ! 24 refl (listed-typed 𝓤 H A W (Length r5) (is-length r5 (is5 .1)))) $
+        calls-both ! fm Slot-t.the-row u8 unit-row (write-lines.clauses 𝓤 H A mem run) (λ r zs. _) (named 0) (a .0 .ptr .0) (a .0 .ptr .1) slots (sliceVal (a .0 .ptr) (length slots)) (named 1) (a .1 .1 .0 .ptr .0) (a .1 .1 .0 .ptr .1) output (sliceVal (a .1 .1 .0 .ptr) (length output)) (λ ν. (clock, tt)) (λ ν. (uint-row w64, tt)) (λ ν δ. tt) known-write-lines (λ ν. ((refl, g-clock), tt)) (λ ν δ. (shown 𝓤 H A (subst (λ (m : ℕ). m ≤ length output) e-text-size fits))) (λ ν δ r ws. id⊢ 𝓤 _)
+        (λ ν δ. (and-then ! (load ! (from ! (stop !)) (look ! 22 refl)) (and-then ! (load ! (from ! (stop !)) (look ! 4 refl)) (and-then ! (load ! (from ! (stop !)) (look ! 20 refl)) (no-more !))))) (λ r-write-lines zs-write-lines l-write-lines is-write-lines e-write-lines. land ! (from ! (stop !)) (init ! 8 refl (tt, tt)) $
+        assigns ! (agg ! (and-then ! (lit ! tt) (and-then ! (load ! (from ! (stop !)) (look ! 14 refl)) (no-more !)))) (from ! (stop !)) (init ! 24 refl (listed-typed 𝓤 H A W (Length r-text-size) (is-length r-text-size (is-text-size .1)))) $
         returns ! (look ! 24 refl) $ out ! 24 refl refl $ out ! 22 refl refl $ out ! 20 refl refl $ out ! 18 refl refl $ out ! 16 refl refl $ out ! 14 refl refl $ out ! 12 refl refl $ out ! 10 refl refl $ out ! 8 refl refl $ out ! 6 refl refl $ out ! 4 refl refl $ free0 ! $
-        keep ! (0 ∷ 1 ∷ 2 ∷ 3 ∷ []) $ by ! (exits (Length r5) (zs8) (lists-whole same e5 fits e8) l8 (is-length r5 (is5 .1)))))))))))))))))))
+        keep ! (0 ∷ 1 ∷ 2 ∷ 3 ∷ []) $ by ! (exits (Length r-text-size) zs-write-lines (lists-whole same e-text-size fits e-write-lines) l-write-lines (is-length r-text-size (is-text-size .1)))))))))))))))))))
 
 pub list-spec : {M : Type 1} → stated.statement M
 unfolding code.routine

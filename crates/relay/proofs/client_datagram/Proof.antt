@@ -1,10 +1,11 @@
--- `relay::client_datagram` meets its contract: a walk of its MIR, by hand.
-use Rattle.slots.proofs.Pre.{ℕ, _<_, _^_, _-_, ftrue, flft, SProp, ent, emp, via, fst∗, id⊢, Lfts, Shares, Fun, givenOf, tables, u64, u8, u32, yes, Is, uint-vals, uint-tells, owns, MutRef, ptr-vals, mut-tells, plain, sliceVal, MutSlice, Room, slice-vals, mut-slice-tells, ShrSlice, shr-slice-tells, owned, nothing, onEntry, Args, Vals, Triple, cited, says, Stays, stay-slice, stay-none, walkOf, goes-slice, goes-none, ends-at, walked, stay-none-slice, goes-none-slice, stay-ref, goes-ref, Atoms, fullShare, URA, length, [], _∷_, List, refl, _≡_, named, w64, w32, Val, vint, vptr, Memory, Routine, Heap, Calls, Loops, WpFn, FmC, Given, feqL, ‵, _⊛_, ⋆, _$_, _∵_, !, qed, by, move, drop, split, join, fsplit, fjoin, suffices, frame, done, keep, Item, whole, sub, look-in, agg, look, init, stop, hop, fld, from, load, assigns, returns, enter, alloc1, alloc0, params1, pass1, pass0, free0, and-then, no-more, land, addr}
-use Rattle.slots.proofs.Lends.{lend-slice, back-slice, lend-ref, back-ref, copy-slice}
-use Rattle.slots.proofs.Walk.{uint-row, ref, asks-none, Of, out, calls-value, framed-calls, finish, tokens, calls-any}
+-- `relay::client_datagram` meets its contract: a walk of its MIR, made by tools/rewalk.
+use Rattle.walk.proofs.Pre.{ℕ, _<_, _^_, _-_, ftrue, flft, SProp, ent, emp, via, fst∗, id⊢, Lfts, Shares, Fun, givenOf, tables, u64, u8, u32, yes, Is, uint-vals, uint-tells, owns, MutRef, ptr-vals, mut-tells, plain, sliceVal, MutSlice, Room, slice-vals, mut-slice-tells, ShrSlice, shr-slice-tells, owned, nothing, onEntry, Args, Vals, Triple, cited, says, Stays, stay-slice, stay-none, walkOf, goes-slice, goes-none, ends-at, walked, stay-none-slice, goes-none-slice, stay-ref, goes-ref, Atoms, fullShare, URA, length, [], _∷_, List, refl, _≡_, named, w64, w32, Val, vint, vptr, Memory, Routine, Heap, Calls, Loops, WpFn, FmC, Given, feqL, ‵, _⊛_, ⋆, _$_, _∵_, !, qed, by, move, drop, split, join, fsplit, fjoin, suffices, frame, done, keep, Item, whole, sub, look-in, agg, look, init, stop, hop, fld, from, load, assigns, returns, enter, alloc1, alloc0, params1, pass1, pass0, free0, and-then, no-more, land, addr}
+use Rattle.walk.proofs.Walk.{uint-row, ref, asks-none, Of, tokens, calls-any, calls-value, out, framed-calls, finish}
+use Rattle.walk.proofs.Lends.{lend-slice, back-slice, lend-ref, back-ref, copy-slice}
 use Rattle.relay.proofs.Rows.{call-row, call-typed, outcome-row, outcome-typed}
-use Rattle.relay.proofs.calls.Call as Call-t
 use Rattle.slots.proofs.Rows.{fivetuple-row, fivetuple-typed}
+use Rattle.relay.specs.declared.calls.Call.{Call}
+use Rattle.relay.proofs.calls.Call as Call-t
 use Rattle.address.specs.declared.FiveTuple.{FiveTuple}
 use Rattle.address.proofs.FiveTuple as FiveTuple-t
 use Rattle.rules.specs.declared.answer.Outcome.{Outcome}
@@ -29,7 +30,7 @@ use Rattle.relay.proofs.client_datagram.Code as code
 abbrev stayed : Stays (client-datagram.ended .signature .params) (client-datagram.ended .kept)
 stayed = (stay-slice (0 ∷ []) tt (plain (λ _. Slot-t.the-row)), (stay-ref (1 ∷ []) tt (plain (λ _. u64)), (stay-none (λ _. u64) yes, (stay-none (λ _. u32) yes, (stay-none (λ _. u32) yes, (stay-none (λ _. u32) yes, (stay-none (λ _. FiveTuple-t.the-row) yes, (stay-none-slice (2 ∷ []) tt (plain (λ _. u8)) yes, (stay-slice (3 ∷ []) tt (plain (λ _. u8)), tt)))))))))
 
-module _ {M : Type 1} (𝓤 : URA M) (H : Heap 𝓤) (A : Atoms 𝓤) (W : Given 𝓤 H A) (mem : Memory → SProp 𝓤) (run : Routine → Fun 𝓤) (κs : Lfts 4) (qs : Shares 4) (a : Args client-datagram.signature κs) (g-time : a .1 .1 .0 < 2 ^ 64) (g-user : a .1 .1 .1 .0 < 2 ^ 32) (g-start : a .1 .1 .1 .1 .0 < 2 ^ 32) (g-relay : a .1 .1 .1 .1 .1 .0 < 2 ^ 32) (is-five_tuple : Is FiveTuple-t.the-row (a .1 .1 .1 .1 .1 .1 .0) (fivetuple-row .val (a .1 .1 .1 .1 .1 .1 .0) ∷ [])) where
+module _ {M : Type 1} (𝓤 : URA M) (H : Heap 𝓤) (A : Atoms 𝓤) (W : Given 𝓤 H A) (mem : Memory → SProp 𝓤) (run : Routine → Fun 𝓤) (κs : Lfts 4) (qs : Shares 4) (a : Args client-datagram.signature κs) (g-time : a .1 .1 .0 < 2 ^ 64) (g-user : a .1 .1 .1 .0 < 2 ^ 32) (g-start : a .1 .1 .1 .1 .0 < 2 ^ 32) (g-relay : a .1 .1 .1 .1 .1 .0 < 2 ^ 32) (is-five-tuple : Is FiveTuple-t.the-row (a .1 .1 .1 .1 .1 .1 .0) (fivetuple-row .val (a .1 .1 .1 .1 .1 .1 .0) ∷ [])) where
   abbrev slots : List Slot
   slots = a .0 .now
 
@@ -48,8 +49,8 @@ module _ {M : Type 1} (𝓤 : URA M) (H : Heap 𝓤) (A : Atoms 𝓤) (W : Given
   abbrev relay : ℕ
   relay = a .1 .1 .1 .1 .1 .0
 
-  abbrev five_tuple : FiveTuple
-  five_tuple = a .1 .1 .1 .1 .1 .1 .0
+  abbrev five-tuple : FiveTuple
+  five-tuple = a .1 .1 .1 .1 .1 .1 .0
 
   abbrev datagram : List ℕ
   datagram = a .1 .1 .1 .1 .1 .1 .1 .0 .now
@@ -58,7 +59,7 @@ module _ {M : Type 1} (𝓤 : URA M) (H : Heap 𝓤) (A : Atoms 𝓤) (W : Given
   reply = a .1 .1 .1 .1 .1 .1 .1 .1 .0 .now
 
   abbrev at : Vals client-datagram.signature κs
-  at = (sliceVal (a .0 .ptr) (length slots) ∷ [], (vptr (a .1 .0 .ptr .0) (a .1 .0 .ptr .1) ∷ [], (vint w64 time ∷ [], (vint w32 user ∷ [], (vint w32 start ∷ [], (vint w32 relay ∷ [], (fivetuple-row .val (five_tuple) ∷ [], (sliceVal (a .1 .1 .1 .1 .1 .1 .1 .0 .ptr) (length datagram) ∷ [], (sliceVal (a .1 .1 .1 .1 .1 .1 .1 .1 .0 .ptr) (length reply) ∷ [], tt)))))))))
+  at = (sliceVal (a .0 .ptr) (length slots) ∷ [], (vptr (a .1 .0 .ptr .0) (a .1 .0 .ptr .1) ∷ [], (vint w64 time ∷ [], (vint w32 user ∷ [], (vint w32 start ∷ [], (vint w32 relay ∷ [], (fivetuple-row .val five-tuple ∷ [], (sliceVal (a .1 .1 .1 .1 .1 .1 .1 .0 .ptr) (length datagram) ∷ [], (sliceVal (a .1 .1 .1 .1 .1 .1 .1 .1 .0 .ptr) (length reply) ∷ [], tt)))))))))
 
   abbrev Own-slots : List Slot → Item 𝓤
   Own-slots v = ‵ (MutSlice (named 0) (κs .0) Slot-t.the-row .own (ref (a .0 .ptr .0) (a .0 .ptr .1) (a .0 .name) v) (sliceVal (a .0 .ptr) (length slots) ∷ []))
@@ -89,46 +90,46 @@ module _ {M : Type 1} (𝓤 : URA M) (H : Heap 𝓤) (A : Atoms 𝓤) (W : Given
 
   -- what the `ensures` says of the result and of the last values
   abbrev Said : Outcome → List Slot → ℕ → List ℕ → Type 0
-  Said r z-slots z-clock z-reply = Stepped (act now-clock slots (clientDatagram time user start relay five_tuple) datagram (length reply)) time r slots z-slots now-clock z-clock reply z-reply
+  Said r z-slots z-clock z-reply = Stepped (act now-clock slots (clientDatagram time user start relay five-tuple) datagram (length reply)) time r slots z-slots now-clock z-clock reply z-reply
 
-  exits : (r : Outcome) (z-slots : List Slot) (z-clock : ℕ) (z-reply : List ℕ) → Said r z-slots z-clock z-reply → length z-slots ≡ length slots → length z-reply ≡ length reply → Is Outcome-t.the-row (r) (outcome-row .val (r) ∷ [])
-      → ent 𝓤 (⋆ 𝓤 H A (Own-slots z-slots ∷ t0 ∷ Own-clock z-clock ∷ t1 ∷ Own-datagram datagram ∷ t2 ∷ Own-reply z-reply ∷ t3 ∷ [])) (Post (outcome-row .val (r)))
+  exits : (r : Outcome) (z-slots : List Slot) (z-clock : ℕ) (z-reply : List ℕ) → Said r z-slots z-clock z-reply → length z-slots ≡ length slots → length z-reply ≡ length reply → Is Outcome-t.the-row r (outcome-row .val r ∷ [])
+      → ent 𝓤 (⋆ 𝓤 H A (Own-slots z-slots ∷ t0 ∷ Own-clock z-clock ∷ t1 ∷ Own-datagram datagram ∷ t2 ∷ Own-reply z-reply ∷ t3 ∷ [])) (Post (outcome-row .val r))
   exits r z-slots z-clock z-reply e l-slots l-reply is =
       qed W (Own-slots z-slots ∷ t0 ∷ Own-clock z-clock ∷ t1 ∷ Own-datagram datagram ∷ t2 ∷ Own-reply z-reply ∷ t3 ∷ []) ∵
-      suffices ! _ (ends-at 𝓤 H A client-datagram.ended stayed (client-datagram.clauses 𝓤 H A mem run) W ((κs, qs, tt, a, at), tt) (outcome-row .val (r)) r (z-slots, (z-clock, (tt, (tt, (tt, (tt, (tt, (tt, (z-reply, tt))))))))) (l-slots, (tt, (tt, (tt, (tt, (tt, (tt, (tt, (l-reply, tt)))))))))) $ says ! e $
+      suffices ! _ (ends-at 𝓤 H A client-datagram.ended stayed (client-datagram.clauses 𝓤 H A mem run) W ((κs, qs, tt, a, at), tt) (outcome-row .val r) r (z-slots, (z-clock, (tt, (tt, (tt, (tt, (tt, (tt, (z-reply, tt))))))))) (l-slots, (tt, (tt, (tt, (tt, (tt, (tt, (tt, (l-reply, tt)))))))))) $ says ! e $
       nothing ! $ move ! (8 ∷ 0 ∷ []) $ join ! $ move ! (6 ∷ 0 ∷ []) $ join ! $ move ! (4 ∷ 0 ∷ []) $ join ! $ move ! (2 ∷ 0 ∷ []) $ join ! $ frame ! $
-      nothing ! $ move ! (4 ∷ 0 ∷ []) $ fjoin ! $ move ! (3 ∷ 0 ∷ []) $ fjoin ! $ owned ! FiveTuple-t.the-row (Is FiveTuple-t.the-row) ((fivetuple-row) .makes 𝓤 H A W) five_tuple _ is-five_tuple $ fjoin ! $ owned ! u32 (Is u32) ((uint-row w32) .makes 𝓤 H A W) relay _ (refl, g-relay) $ fjoin ! $ owned ! u32 (Is u32) ((uint-row w32) .makes 𝓤 H A W) start _ (refl, g-start) $ fjoin ! $ owned ! u32 (Is u32) ((uint-row w32) .makes 𝓤 H A W) user _ (refl, g-user) $ fjoin ! $ owned ! u64 (Is u64) ((uint-row w64) .makes 𝓤 H A W) time _ (refl, g-time) $ fjoin ! $ move ! (2 ∷ 0 ∷ []) $ fjoin ! $ move ! (1 ∷ 0 ∷ []) $ fjoin ! $ frame ! $ owned ! Outcome-t.the-row (Is Outcome-t.the-row) ((outcome-row) .makes 𝓤 H A W) r _ is $ done !
+      nothing ! $ move ! (4 ∷ 0 ∷ []) $ fjoin ! $ move ! (3 ∷ 0 ∷ []) $ fjoin ! $ owned ! FiveTuple-t.the-row (Is FiveTuple-t.the-row) (fivetuple-row .makes 𝓤 H A W) five-tuple _ is-five-tuple $ fjoin ! $ owned ! u32 (Is u32) ((uint-row w32) .makes 𝓤 H A W) relay _ (refl, g-relay) $ fjoin ! $ owned ! u32 (Is u32) ((uint-row w32) .makes 𝓤 H A W) start _ (refl, g-start) $ fjoin ! $ owned ! u32 (Is u32) ((uint-row w32) .makes 𝓤 H A W) user _ (refl, g-user) $ fjoin ! $ owned ! u64 (Is u64) ((uint-row w64) .makes 𝓤 H A W) time _ (refl, g-time) $ fjoin ! $ move ! (2 ∷ 0 ∷ []) $ fjoin ! $ move ! (1 ∷ 0 ∷ []) $ fjoin ! $ frame ! $ owned ! Outcome-t.the-row (Is Outcome-t.the-row) (outcome-row .makes 𝓤 H A W) r _ is $ done !
 
   module _ (C : Calls 𝓤 H) (Λ : Loops 𝓤 H) (fm : FmC 𝓤 H (W .laws) C) (known-call-of-client : Triple 𝓤 (C #relay·call-of-client) (Of 𝓤 H A call-of-client.ended (call-of-client.clauses 𝓤 H A mem run))) (known-relay-datagram : Triple 𝓤 (C #relay·relay-datagram) (Of 𝓤 H A relay-datagram.ended (relay-datagram.clauses 𝓤 H A mem run))) where
-    walk : Room Slot-t.the-row (length slots) → Room u8 (length datagram) → Room u8 (length reply) → ent 𝓤 (onEntry 𝓤 H A client-datagram.signature κs qs a at) (WpFn 𝓤 H C Λ code.function (sliceVal (a .0 .ptr) (length slots) ∷ vptr (a .1 .0 .ptr .0) (a .1 .0 .ptr .1) ∷ vint w64 time ∷ vint w32 user ∷ vint w32 start ∷ vint w32 relay ∷ fivetuple-row .val (five_tuple) ∷ sliceVal (a .1 .1 .1 .1 .1 .1 .1 .0 .ptr) (length datagram) ∷ sliceVal (a .1 .1 .1 .1 .1 .1 .1 .1 .0 .ptr) (length reply) ∷ []) Post)
+    walk : Room Slot-t.the-row (length slots) → Room u8 (length datagram) → Room u8 (length reply) → ent 𝓤 (onEntry 𝓤 H A client-datagram.signature κs qs a at) (WpFn 𝓤 H C Λ code.function (sliceVal (a .0 .ptr) (length slots) ∷ vptr (a .1 .0 .ptr .0) (a .1 .0 .ptr .1) ∷ vint w64 time ∷ vint w32 user ∷ vint w32 start ∷ vint w32 relay ∷ fivetuple-row .val five-tuple ∷ sliceVal (a .1 .1 .1 .1 .1 .1 .1 .0 .ptr) (length datagram) ∷ sliceVal (a .1 .1 .1 .1 .1 .1 .1 .1 .0 .ptr) (length reply) ∷ []) Post)
     walk room-slots room-datagram room-reply =
         qed W ((t0 ⊛ (t1 ⊛ (t2 ⊛ (t3 ⊛ ‵ ftrue)))) ∷ ‵ (owns (MutSlice (named 0) (κs .0) Slot-t.the-row ∷ MutRef (named 1) (κs .1 .0) u64 ∷ u64 ∷ u32 ∷ u32 ∷ u32 ∷ FiveTuple-t.the-row ∷ ShrSlice (named 2) (κs .1 .1 .0) u8 ∷ MutSlice (named 3) (κs .1 .1 .1 .0) u8 ∷ []) a at) ∷ []) ∵
         split ! $ move ! (1 ∷ []) $ split ! $ move ! (1 ∷ []) $ split ! $ move ! (1 ∷ []) $ split ! $ move ! (5 ∷ []) $ fsplit ! $ move ! (1 ∷ []) $ fsplit ! $ move ! (1 ∷ []) $ fsplit ! $ drop ! $ fsplit ! $ drop ! $ fsplit ! $ drop ! $ fsplit ! $ drop ! $ fsplit ! $ drop ! $ fsplit ! $ move ! (1 ∷ []) $ fsplit ! $ move ! (1 ∷ []) $ keep ! (4 ∷ 9 ∷ 3 ∷ 8 ∷ 2 ∷ 7 ∷ 1 ∷ 5 ∷ []) $
-        enter ! C Λ code.function (sliceVal (a .0 .ptr) (length slots) ∷ vptr (a .1 .0 .ptr .0) (a .1 .0 .ptr .1) ∷ vint w64 time ∷ vint w32 user ∷ vint w32 start ∷ vint w32 relay ∷ fivetuple-row .val (five_tuple) ∷ sliceVal (a .1 .1 .1 .1 .1 .1 .1 .0 .ptr) (length datagram) ∷ sliceVal (a .1 .1 .1 .1 .1 .1 .1 .1 .0 .ptr) (length reply) ∷ []) _ $
+        enter ! C Λ code.function (sliceVal (a .0 .ptr) (length slots) ∷ vptr (a .1 .0 .ptr .0) (a .1 .0 .ptr .1) ∷ vint w64 time ∷ vint w32 user ∷ vint w32 start ∷ vint w32 relay ∷ fivetuple-row .val five-tuple ∷ sliceVal (a .1 .1 .1 .1 .1 .1 .1 .0 .ptr) (length datagram) ∷ sliceVal (a .1 .1 .1 .1 .1 .1 .1 .1 .0 .ptr) (length reply) ∷ []) _ $
         alloc1 ! (λ l₀. alloc1 ! (λ l₁. alloc1 ! (λ l₂. alloc1 ! (λ l₃. alloc1 ! (λ l₄. alloc1 ! (λ l₅. alloc1 ! (λ l₆. alloc1 ! (λ l₇. alloc1 ! (λ l₈. alloc1 ! (λ l₉. alloc1 ! (λ l₁₀. alloc1 ! (λ l₁₁. alloc1 ! (λ l₁₂. alloc1 ! (λ l₁₃. alloc1 ! (λ l₁₄. alloc1 ! (λ l₁₅. alloc0 ! $ params1 ! $
-        pass1 ! (init ! 28 refl (tt, (tt, (record { fits = room-slots .0 }, tt)))) $ pass1 ! (init ! 26 refl (tt, tt)) $ pass1 ! (init ! 24 refl (tt, record { fits = g-time })) $ pass1 ! (init ! 22 refl (tt, record { fits = g-user })) $ pass1 ! (init ! 20 refl (tt, record { fits = g-start })) $ pass1 ! (init ! 18 refl (tt, record { fits = g-relay })) $ pass1 ! (init ! 16 refl (fivetuple-typed 𝓤 H A W five_tuple is-five_tuple)) $ pass1 ! (init ! 14 refl (tt, (tt, (record { fits = room-datagram .0 }, tt)))) $ pass1 ! (init ! 12 refl (tt, (tt, (record { fits = room-reply .0 }, tt)))) $ pass0 ! $
+        pass1 ! (init ! 28 refl (tt, (tt, (record { fits = room-slots .0 }, tt)))) $ pass1 ! (init ! 26 refl (tt, tt)) $ pass1 ! (init ! 24 refl (tt, record { fits = g-time })) $ pass1 ! (init ! 22 refl (tt, record { fits = g-user })) $ pass1 ! (init ! 20 refl (tt, record { fits = g-start })) $ pass1 ! (init ! 18 refl (tt, record { fits = g-relay })) $ pass1 ! (init ! 16 refl (fivetuple-typed 𝓤 H A W five-tuple is-five-tuple)) $ pass1 ! (init ! 14 refl (tt, (tt, (record { fits = room-datagram .0 }, tt)))) $ pass1 ! (init ! 12 refl (tt, (tt, (record { fits = room-reply .0 }, tt)))) $ pass0 ! $
         -- the references and their tokens first: from here local k stands at 38 - 2 k
         move ! (32 ∷ 33 ∷ 34 ∷ 35 ∷ 36 ∷ 37 ∷ 38 ∷ 39 ∷ []) $
         -- `call_of_client`
-        calls-value ! fm (call-row) (call-of-client.clauses 𝓤 H A mem run) (λ r. _) (uint-row w64, (uint-row w32, (uint-row w32, (uint-row w32, (fivetuple-row, tt))))) (time, (user, (start, (relay, (five_tuple, tt))))) tt known-call-of-client ((refl, g-time), ((refl, g-user), ((refl, g-start), ((refl, g-relay), (is-five_tuple, tt))))) (asks-none 𝓤 H A) (λ r ws. id⊢ 𝓤 _)
-        (and-then ! (load ! (from ! (stop !)) (look ! 33 refl)) (and-then ! (load ! (from ! (stop !)) (look ! 31 refl)) (and-then ! (load ! (from ! (stop !)) (look ! 29 refl)) (and-then ! (load ! (from ! (stop !)) (look ! 27 refl)) (and-then ! (load ! (from ! (stop !)) (look ! 25 refl)) (no-more !)))))) (λ r10 is10 e10. land ! (from ! (stop !)) (init ! 18 refl (call-typed 𝓤 H A W (r10) (is10))) $
+        calls-value ! fm call-row (call-of-client.clauses 𝓤 H A mem run) (λ r. _) (uint-row w64, (uint-row w32, (uint-row w32, (uint-row w32, (fivetuple-row, tt))))) (time, (user, (start, (relay, (five-tuple, tt))))) tt known-call-of-client ((refl, g-time), ((refl, g-user), ((refl, g-start), ((refl, g-relay), (is-five-tuple, tt))))) (asks-none 𝓤 H A) (λ r ws. id⊢ 𝓤 _)
+        (and-then ! (load ! (from ! (stop !)) (look ! 33 refl)) (and-then ! (load ! (from ! (stop !)) (look ! 31 refl)) (and-then ! (load ! (from ! (stop !)) (look ! 29 refl)) (and-then ! (load ! (from ! (stop !)) (look ! 27 refl)) (and-then ! (load ! (from ! (stop !)) (look ! 25 refl)) (no-more !)))))) (λ r-call-of-client is-call-of-client e-call-of-client. land ! (from ! (stop !)) (init ! 18 refl (call-typed 𝓤 H A W r-call-of-client is-call-of-client)) $
         assigns ! (addr ! (from ! (fld ! refl (hop ! (look-in ! 36 (sub ! 0 refl (whole !))) (stop !))))) (from ! (stop !)) (init ! 16 refl (tt, tt)) $
         assigns ! (agg ! (and-then ! (load ! (from ! (stop !)) (look ! 16 refl)) (and-then ! (load ! (from ! (fld ! refl (stop !))) (look-in ! 36 (sub ! 1 refl (whole !)))) (no-more !)))) (from ! (stop !)) (init ! 14 refl (tt, (tt, (record { fits = room-slots .0 }, tt)))) $
         assigns ! (addr ! (from ! (hop ! (look ! 34 refl) (stop !)))) (from ! (stop !)) (init ! 12 refl (tt, tt)) $
         assigns ! (addr ! (from ! (fld ! refl (hop ! (look-in ! 20 (sub ! 0 refl (whole !))) (stop !))))) (from ! (stop !)) (init ! 10 refl (tt, tt)) $
         assigns ! (agg ! (and-then ! (load ! (from ! (stop !)) (look ! 10 refl)) (and-then ! (load ! (from ! (fld ! refl (stop !))) (look-in ! 20 (sub ! 1 refl (whole !)))) (no-more !)))) (from ! (stop !)) (init ! 8 refl (tt, (tt, (record { fits = room-reply .0 }, tt)))) $
         -- `relay_datagram`
-        move ! (6 ∷ 7 ∷ []) $ lend-slice ! tt u8 (named 3) (named 3) (a .1 .1 .1 .1 .1 .1 .1 .1 .0 .ptr .0) (a .1 .1 .1 .1 .1 .1 .1 .1 .0 .ptr .1) reply (sliceVal (a .1 .1 .1 .1 .1 .1 .1 .1 .0 .ptr) (length reply)) (λ ν₀-4 δ₀-4.
+        move ! (6 ∷ 7 ∷ []) $ lend-slice ! tt u8 (named 3) (named 3) (a .1 .1 .1 .1 .1 .1 .1 .1 .0 .ptr .0) (a .1 .1 .1 .1 .1 .1 .1 .1 .0 .ptr .1) reply (sliceVal (a .1 .1 .1 .1 .1 .1 .1 .1 .0 .ptr) (length reply)) (λ ν-relay-datagram-reply δ-relay-datagram-reply.
         move ! (8 ∷ 9 ∷ []) $ copy-slice ! u8 (named 2) (a .1 .1 .1 .1 .1 .1 .1 .0 .ptr .0) (a .1 .1 .1 .1 .1 .1 .1 .0 .ptr .1) datagram (sliceVal (a .1 .1 .1 .1 .1 .1 .1 .0 .ptr) (length datagram)) $
-        move ! (10 ∷ 11 ∷ []) $ lend-ref ! tt u64 (named 1) (named 1) (a .1 .0 .ptr .0) (a .1 .0 .ptr .1) now-clock (λ ν₀-1 δ₀-1.
-        move ! (12 ∷ 13 ∷ []) $ lend-slice ! tt Slot-t.the-row (named 0) (named 0) (a .0 .ptr .0) (a .0 .ptr .1) slots (sliceVal (a .0 .ptr) (length slots)) (λ ν₀-0 δ₀-0.
-        nothing ! $ move ! (14 ∷ 0 ∷ []) $ join ! $ move ! (10 ∷ 0 ∷ []) $ join ! $ move ! (6 ∷ 0 ∷ []) $ join ! $ move ! (2 ∷ 0 ∷ []) $ join ! $ nothing ! $ move ! (11 ∷ 0 ∷ []) $ fjoin ! $ move ! (8 ∷ 0 ∷ []) $ fjoin ! $ owned ! Call-t.the-row (Is Call-t.the-row) ((call-row) .makes 𝓤 H A W) r10 _ is10 $ fjoin ! $ move ! (5 ∷ 0 ∷ []) $ fjoin ! $ move ! (2 ∷ 0 ∷ []) $ fjoin ! $ move ! (1 ∷ 0 ∷ []) $
-        calls-any ! fm relay-datagram.ended (relay-datagram.clauses 𝓤 H A mem run) (ν₀-0 ∷ [], (ν₀-1 ∷ [], (κs .1 .1 .0, (ν₀-4 ∷ [], tt)))) (fullShare, (fullShare, (qs .1 .1 .0, (fullShare, tt)))) tt (outcome-row) (ref (a .0 .ptr .0) (a .0 .ptr .1) δ₀-0 slots, (ref (a .1 .0 .ptr .0) (a .1 .0 .ptr .1) δ₀-1 now-clock, (r10, (ref (a .1 .1 .1 .1 .1 .1 .1 .0 .ptr .0) (a .1 .1 .1 .1 .1 .1 .1 .0 .ptr .1) (a .1 .1 .1 .1 .1 .1 .1 .0 .name) datagram, (ref (a .1 .1 .1 .1 .1 .1 .1 .1 .0 .ptr .0) (a .1 .1 .1 .1 .1 .1 .1 .1 .0 .ptr .1) δ₀-4 reply, tt))))) (sliceVal (a .0 .ptr) (length slots) ∷ [], (vptr (a .1 .0 .ptr .0) (a .1 .0 .ptr .1) ∷ [], (call-row .val (r10) ∷ [], (sliceVal (a .1 .1 .1 .1 .1 .1 .1 .0 .ptr) (length datagram) ∷ [], (sliceVal (a .1 .1 .1 .1 .1 .1 .1 .1 .0 .ptr) (length reply) ∷ [], tt))))) tt (λ r ws. _) known-relay-datagram (asks-none 𝓤 H A) (λ r ws. id⊢ 𝓤 _)
-        (and-then ! (load ! (from ! (stop !)) (look ! 15 refl)) (and-then ! (load ! (from ! (stop !)) (look ! 13 refl)) (and-then ! (load ! (from ! (stop !)) (look ! 19 refl)) (and-then ! (load ! (from ! (stop !)) (look ! 23 refl)) (and-then ! (load ! (from ! (stop !)) (look ! 9 refl)) (no-more !)))))) (λ r0 ws0 is0 e0.
-        split ! $ move ! (1 ∷ []) $ split ! $ move ! (1 ∷ []) $ split ! $ move ! (1 ∷ []) $ split ! $ move ! (1 ∷ []) $ drop ! $ move ! (4 ∷ []) $ fsplit ! $ fsplit ! $ move ! (1 ∷ []) $ feqL ! (λ l0-0. move ! (0 ∷ 5 ∷ 6 ∷ 7 ∷ []) $ back-slice ! tt Slot-t.the-row (named 0) (a .0 .ptr .0) (a .0 .ptr .1) slots (ws0 .0) (sliceVal (a .0 .ptr) (length slots)) l0-0 refl room-slots $ move ! (2 ∷ []) $ fsplit ! $ move ! (0 ∷ 6 ∷ 7 ∷ 8 ∷ []) $ back-ref ! tt u64 (named 1) (a .1 .0 .ptr .0) (a .1 .0 .ptr .1) now-clock (ws0 .1 .0) $ move ! (2 ∷ []) $ fsplit ! $ drop ! $ fsplit ! $ drop ! $ move ! (6 ∷ 7 ∷ 8 ∷ []) $ move ! (1 ∷ 0 ∷ 2 ∷ []) $ move ! (2 ∷ []) $ drop ! $ move ! (2 ∷ []) $ fsplit ! $ fsplit ! $ move ! (1 ∷ []) $ feqL ! (λ l0-4. move ! (0 ∷ 8 ∷ 9 ∷ 10 ∷ []) $ back-slice ! tt u8 (named 3) (a .1 .1 .1 .1 .1 .1 .1 .1 .0 .ptr .0) (a .1 .1 .1 .1 .1 .1 .1 .1 .0 .ptr .1) reply (ws0 .1 .1 .1 .1 .0) (sliceVal (a .1 .1 .1 .1 .1 .1 .1 .1 .0 .ptr) (length reply)) l0-4 refl room-reply $ move ! (2 ∷ []) $ drop ! $
-        land ! (from ! (stop !)) (init ! 38 refl (outcome-typed 𝓤 H A W (r0) (is0))) $
+        move ! (10 ∷ 11 ∷ []) $ lend-ref ! tt u64 (named 1) (named 1) (a .1 .0 .ptr .0) (a .1 .0 .ptr .1) now-clock (λ ν-relay-datagram-clock δ-relay-datagram-clock.
+        move ! (12 ∷ 13 ∷ []) $ lend-slice ! tt Slot-t.the-row (named 0) (named 0) (a .0 .ptr .0) (a .0 .ptr .1) slots (sliceVal (a .0 .ptr) (length slots)) (λ ν-relay-datagram-slots δ-relay-datagram-slots.
+        nothing ! $ move ! (14 ∷ 0 ∷ []) $ join ! $ move ! (10 ∷ 0 ∷ []) $ join ! $ move ! (6 ∷ 0 ∷ []) $ join ! $ move ! (2 ∷ 0 ∷ []) $ join ! $ nothing ! $ move ! (11 ∷ 0 ∷ []) $ fjoin ! $ move ! (8 ∷ 0 ∷ []) $ fjoin ! $ owned ! Call-t.the-row (Is Call-t.the-row) (call-row .makes 𝓤 H A W) r-call-of-client _ is-call-of-client $ fjoin ! $ move ! (5 ∷ 0 ∷ []) $ fjoin ! $ move ! (2 ∷ 0 ∷ []) $ fjoin ! $ move ! (1 ∷ 0 ∷ []) $
+        calls-any ! fm relay-datagram.ended (relay-datagram.clauses 𝓤 H A mem run) (ν-relay-datagram-slots ∷ [], (ν-relay-datagram-clock ∷ [], (κs .1 .1 .0, (ν-relay-datagram-reply ∷ [], tt)))) (fullShare, (fullShare, (qs .1 .1 .0, (fullShare, tt)))) tt outcome-row (ref (a .0 .ptr .0) (a .0 .ptr .1) δ-relay-datagram-slots slots, (ref (a .1 .0 .ptr .0) (a .1 .0 .ptr .1) δ-relay-datagram-clock now-clock, (r-call-of-client, (ref (a .1 .1 .1 .1 .1 .1 .1 .0 .ptr .0) (a .1 .1 .1 .1 .1 .1 .1 .0 .ptr .1) (a .1 .1 .1 .1 .1 .1 .1 .0 .name) datagram, (ref (a .1 .1 .1 .1 .1 .1 .1 .1 .0 .ptr .0) (a .1 .1 .1 .1 .1 .1 .1 .1 .0 .ptr .1) δ-relay-datagram-reply reply, tt))))) (sliceVal (a .0 .ptr) (length slots) ∷ [], (vptr (a .1 .0 .ptr .0) (a .1 .0 .ptr .1) ∷ [], (call-row .val r-call-of-client ∷ [], (sliceVal (a .1 .1 .1 .1 .1 .1 .1 .0 .ptr) (length datagram) ∷ [], (sliceVal (a .1 .1 .1 .1 .1 .1 .1 .1 .0 .ptr) (length reply) ∷ [], tt))))) tt (λ r ws. _) known-relay-datagram (asks-none 𝓤 H A) (λ r ws. id⊢ 𝓤 _)
+        (and-then ! (load ! (from ! (stop !)) (look ! 15 refl)) (and-then ! (load ! (from ! (stop !)) (look ! 13 refl)) (and-then ! (load ! (from ! (stop !)) (look ! 19 refl)) (and-then ! (load ! (from ! (stop !)) (look ! 23 refl)) (and-then ! (load ! (from ! (stop !)) (look ! 9 refl)) (no-more !)))))) (λ r-relay-datagram ws-relay-datagram is-relay-datagram e-relay-datagram.
+        split ! $ move ! (1 ∷ []) $ split ! $ move ! (1 ∷ []) $ split ! $ move ! (1 ∷ []) $ split ! $ move ! (1 ∷ []) $ drop ! $ move ! (4 ∷ []) $ fsplit ! $ fsplit ! $ move ! (1 ∷ []) $ feqL ! (λ l-relay-datagram-slots. move ! (0 ∷ 5 ∷ 6 ∷ 7 ∷ []) $ back-slice ! tt Slot-t.the-row (named 0) (a .0 .ptr .0) (a .0 .ptr .1) slots (ws-relay-datagram .0) (sliceVal (a .0 .ptr) (length slots)) l-relay-datagram-slots refl room-slots $ move ! (2 ∷ []) $ fsplit ! $ move ! (0 ∷ 6 ∷ 7 ∷ 8 ∷ []) $ back-ref ! tt u64 (named 1) (a .1 .0 .ptr .0) (a .1 .0 .ptr .1) now-clock (ws-relay-datagram .1 .0) $ move ! (2 ∷ []) $ fsplit ! $ drop ! $ fsplit ! $ drop ! $ move ! (6 ∷ 7 ∷ 8 ∷ []) $ move ! (1 ∷ 0 ∷ 2 ∷ []) $ move ! (2 ∷ []) $ drop ! $ move ! (2 ∷ []) $ fsplit ! $ fsplit ! $ move ! (1 ∷ []) $ feqL ! (λ l-relay-datagram-reply. move ! (0 ∷ 8 ∷ 9 ∷ 10 ∷ []) $ back-slice ! tt u8 (named 3) (a .1 .1 .1 .1 .1 .1 .1 .1 .0 .ptr .0) (a .1 .1 .1 .1 .1 .1 .1 .1 .0 .ptr .1) reply (ws-relay-datagram .1 .1 .1 .1 .0) (sliceVal (a .1 .1 .1 .1 .1 .1 .1 .1 .0 .ptr) (length reply)) l-relay-datagram-reply refl room-reply $ move ! (2 ∷ []) $ drop ! $
+        land ! (from ! (stop !)) (init ! 38 refl (outcome-typed 𝓤 H A W r-relay-datagram is-relay-datagram)) $
         returns ! (look ! 38 refl) $ out ! 38 refl refl $ out ! 36 refl refl $ out ! 34 refl refl $ out ! 32 refl refl $ out ! 30 refl refl $ out ! 28 refl refl $ out ! 26 refl refl $ out ! 24 refl refl $ out ! 22 refl refl $ out ! 20 refl refl $ out ! 18 refl refl $ out ! 16 refl refl $ out ! 14 refl refl $ out ! 12 refl refl $ out ! 10 refl refl $ out ! 8 refl refl $ free0 ! $
-        keep ! (6 ∷ 7 ∷ 4 ∷ 5 ∷ 2 ∷ 3 ∷ 0 ∷ 1 ∷ []) $ by ! (exits (r0) ((ws0 .0)) ((ws0 .1 .0)) ((ws0 .1 .1 .1 .1 .0)) (made-step datagram (length reply) e10 e0) l0-0 l0-4 is0))))))))))))))))))))))))
+        keep ! (6 ∷ 7 ∷ 4 ∷ 5 ∷ 2 ∷ 3 ∷ 0 ∷ 1 ∷ []) $ by ! (exits r-relay-datagram (ws-relay-datagram .0) (ws-relay-datagram .1 .0) (ws-relay-datagram .1 .1 .1 .1 .0) (made-step datagram (length reply) e-call-of-client e-relay-datagram) l-relay-datagram-slots l-relay-datagram-reply is-relay-datagram))))))))))))))))))))))))
 
 pub client-datagram-spec : {M : Type 1} → stated.statement M
 unfolding code.routine

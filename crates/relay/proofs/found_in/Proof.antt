@@ -1,11 +1,14 @@
--- `relay::found_in` meets its contract: a walk of its MIR, by hand.
-use Rattle.slots.proofs.Pre.{ℕ, _<_, _-_, ftrue, flft, SProp, ent, id⊢, Lfts, Shares, Fun, givenOf, tables, u8, yes, Is, owns, plain, sliceVal, MutSlice, Room, slice-vals, mut-slice-tells, ShrSlice, shr-slice-tells, owned, nothing, onEntry, Args, Vals, Triple, cited, says, needs, Stays, stay-slice, stay-none, walkOf, goes-slice, goes-none, ends-at, walked, stay-none-slice, goes-none-slice, Atoms, URA, length, [], _∷_, List, refl, _≡_, named, w64, Val, Memory, Routine, Heap, Calls, Loops, WpFn, FmC, Given, ‵, _⊛_, ⋆, _$_, _∵_, !, qed, by, move, drop, split, join, fsplit, fjoin, suffices, frame, done, keep, Item, whole, sub, look-in, agg, look, init, stop, hop, fld, from, load, assigns, returns, enter, alloc1, alloc0, params1, pass1, pass0, free0, and-then, no-more, land, addr}
-use Rattle.slots.proofs.Lends.{calls-lent, calls-shown, calls-both}
-use Rattle.slots.proofs.Walk.{uint-row, unit-row, ref, shown, asks-none, Of, out, calls-value, framed-calls, finish, tokens}
-use Rattle.relay.proofs.Rows.{answer-row, answer-typed, call-row, call-typed, outcome-row, outcome-typed}
+-- `relay::found_in` meets its contract: a walk of its MIR, made by tools/rewalk.
+use Rattle.walk.proofs.Pre.{ℕ, _<_, _-_, ftrue, flft, SProp, ent, id⊢, Lfts, Shares, Fun, givenOf, tables, u8, yes, Is, owns, plain, sliceVal, MutSlice, Room, slice-vals, mut-slice-tells, ShrSlice, shr-slice-tells, owned, nothing, onEntry, Args, Vals, Triple, cited, says, needs, Stays, stay-slice, stay-none, walkOf, goes-slice, goes-none, ends-at, walked, stay-none-slice, goes-none-slice, Atoms, URA, length, [], _∷_, List, refl, _≡_, named, w64, Val, Memory, Routine, Heap, Calls, Loops, WpFn, FmC, Given, ‵, _⊛_, ⋆, _$_, _∵_, !, qed, by, move, drop, split, join, fsplit, fjoin, suffices, frame, done, keep, Item, whole, sub, look-in, agg, look, init, stop, hop, fld, from, load, assigns, returns, enter, alloc1, alloc0, params1, pass1, pass0, free0, and-then, no-more, land, addr}
+use Rattle.walk.proofs.Walk.{uint-row, unit-row, ref, shown, asks-none, Of, tokens, calls-value, out, framed-calls, finish}
+use Rattle.walk.proofs.Lends.{calls-lent, calls-shown, calls-both}
+use Rattle.relay.proofs.Rows.{call-row, call-typed, outcome-row, outcome-typed, answer-row, answer-typed}
+use Rattle.slots.proofs.Rows.{slot-row, slot-typed, key-row, key-typed, found-row, found-typed}
+use Rattle.rules.specs.declared.answer.Answer.{Answer}
 use Rattle.relay.specs.declared.calls.Call.{Call}
 use Rattle.relay.proofs.calls.Call as Call-t
-use Rattle.slots.proofs.Rows.{found-row, found-typed, key-row, key-typed, slot-row, slot-typed}
+use Rattle.table.specs.declared.Found.{Found}
+use Rattle.slots.specs.declared.keys.Key.{Key}
 use Rattle.rules.specs.declared.answer.Outcome.{Outcome}
 use Rattle.rules.proofs.answer.Outcome as Outcome-t
 use Rattle.table.specs.declared.Slot.{Slot}
@@ -70,7 +73,7 @@ module _ {M : Type 1} (𝓤 : URA M) (H : Heap 𝓤) (A : Atoms 𝓤) (W : Given
   reply = a .1 .1 .1 .0 .now
 
   abbrev at : Vals found-in.signature κs
-  at = (sliceVal (a .0 .ptr) (length slots) ∷ [], (call-row .val (call) ∷ [], (sliceVal (a .1 .1 .0 .ptr) (length datagram) ∷ [], (sliceVal (a .1 .1 .1 .0 .ptr) (length reply) ∷ [], tt))))
+  at = (sliceVal (a .0 .ptr) (length slots) ∷ [], (call-row .val call ∷ [], (sliceVal (a .1 .1 .0 .ptr) (length datagram) ∷ [], (sliceVal (a .1 .1 .1 .0 .ptr) (length reply) ∷ [], tt))))
 
   abbrev Own-slots : List Slot → Item 𝓤
   Own-slots v = ‵ (MutSlice (named 0) (κs .0) Slot-t.the-row .own (ref (a .0 .ptr .0) (a .0 .ptr .1) (a .0 .name) v) (sliceVal (a .0 .ptr) (length slots) ∷ []))
@@ -97,20 +100,20 @@ module _ {M : Type 1} (𝓤 : URA M) (H : Heap 𝓤) (A : Atoms 𝓤) (W : Given
   abbrev Said : Outcome → List Slot → List ℕ → Type 0
   Said r z-slots z-reply = Acted (foundAct call slots datagram) r slots z-slots reply z-reply
 
-  exits : (r : Outcome) (z-slots : List Slot) (z-reply : List ℕ) → Said r z-slots z-reply → length z-slots ≡ length slots → length z-reply ≡ length reply → Is Outcome-t.the-row (r) (outcome-row .val (r) ∷ [])
-      → ent 𝓤 (⋆ 𝓤 H A (Own-slots z-slots ∷ t0 ∷ Own-datagram datagram ∷ t1 ∷ Own-reply z-reply ∷ t2 ∷ [])) (Post (outcome-row .val (r)))
+  exits : (r : Outcome) (z-slots : List Slot) (z-reply : List ℕ) → Said r z-slots z-reply → length z-slots ≡ length slots → length z-reply ≡ length reply → Is Outcome-t.the-row r (outcome-row .val r ∷ [])
+      → ent 𝓤 (⋆ 𝓤 H A (Own-slots z-slots ∷ t0 ∷ Own-datagram datagram ∷ t1 ∷ Own-reply z-reply ∷ t2 ∷ [])) (Post (outcome-row .val r))
   exits r z-slots z-reply e l-slots l-reply is =
       qed W (Own-slots z-slots ∷ t0 ∷ Own-datagram datagram ∷ t1 ∷ Own-reply z-reply ∷ t2 ∷ []) ∵
-      suffices ! _ (ends-at 𝓤 H A found-in.ended stayed (found-in.clauses 𝓤 H A mem run) W ((κs, qs, tt, a, at), tt) (outcome-row .val (r)) r (z-slots, (tt, (tt, (z-reply, tt)))) (l-slots, (tt, (tt, (l-reply, tt))))) $ says ! e $
+      suffices ! _ (ends-at 𝓤 H A found-in.ended stayed (found-in.clauses 𝓤 H A mem run) W ((κs, qs, tt, a, at), tt) (outcome-row .val r) r (z-slots, (tt, (tt, (z-reply, tt)))) (l-slots, (tt, (tt, (l-reply, tt))))) $ says ! e $
       nothing ! $ move ! (6 ∷ 0 ∷ []) $ join ! $ move ! (4 ∷ 0 ∷ []) $ join ! $ move ! (2 ∷ 0 ∷ []) $ join ! $ frame ! $
-      nothing ! $ move ! (3 ∷ 0 ∷ []) $ fjoin ! $ move ! (2 ∷ 0 ∷ []) $ fjoin ! $ owned ! Call-t.the-row (Is Call-t.the-row) ((call-row) .makes 𝓤 H A W) call _ is-call $ fjoin ! $ move ! (1 ∷ 0 ∷ []) $ fjoin ! $ frame ! $ owned ! Outcome-t.the-row (Is Outcome-t.the-row) ((outcome-row) .makes 𝓤 H A W) r _ is $ done !
+      nothing ! $ move ! (3 ∷ 0 ∷ []) $ fjoin ! $ move ! (2 ∷ 0 ∷ []) $ fjoin ! $ owned ! Call-t.the-row (Is Call-t.the-row) (call-row .makes 𝓤 H A W) call _ is-call $ fjoin ! $ move ! (1 ∷ 0 ∷ []) $ fjoin ! $ frame ! $ owned ! Outcome-t.the-row (Is Outcome-t.the-row) (outcome-row .makes 𝓤 H A W) r _ is $ done !
 
   module _ (C : Calls 𝓤 H) (Λ : Loops 𝓤 H) (fm : FmC 𝓤 H (W .laws) C) (known-time-of : Triple 𝓤 (C #relay·time-of) (Of 𝓤 H A time-of.ended (time-of.clauses 𝓤 H A mem run))) (known-key-of : Triple 𝓤 (C #relay·key-of) (Of 𝓤 H A key-of.ended (key-of.clauses 𝓤 H A mem run))) (known-search : Triple 𝓤 (C #slots·search) (Of 𝓤 H A search.ended (search.clauses 𝓤 H A mem run))) (known-place-of : Triple 𝓤 (C #relay·place-of) (Of 𝓤 H A place-of.ended (place-of.clauses 𝓤 H A mem run))) (known-slot-at : Triple 𝓤 (C #slots·slot-at) (Of 𝓤 H A slot-at.ended (slot-at.clauses 𝓤 H A mem run))) (known-on-found : Triple 𝓤 (C #relay·on-found) (Of 𝓤 H A on-found.ended (on-found.clauses 𝓤 H A mem run))) (known-slot-of : Triple 𝓤 (C #relay·slot-of) (Of 𝓤 H A slot-of.ended (slot-of.clauses 𝓤 H A mem run))) (known-put-slot : Triple 𝓤 (C #slots·put-slot) (Of 𝓤 H A put-slot.ended (put-slot.clauses 𝓤 H A mem run))) (known-outcome-of : Triple 𝓤 (C #relay·outcome-of) (Of 𝓤 H A outcome-of.ended (outcome-of.clauses 𝓤 H A mem run))) where
-    walk : Room Slot-t.the-row (length slots) → Room u8 (length datagram) → Room u8 (length reply) → (length slots ≡ 64) × Ready call datagram reply → ent 𝓤 (onEntry 𝓤 H A found-in.signature κs qs a at) (WpFn 𝓤 H C Λ code.function (sliceVal (a .0 .ptr) (length slots) ∷ call-row .val (call) ∷ sliceVal (a .1 .1 .0 .ptr) (length datagram) ∷ sliceVal (a .1 .1 .1 .0 .ptr) (length reply) ∷ []) Post)
+    walk : Room Slot-t.the-row (length slots) → Room u8 (length datagram) → Room u8 (length reply) → (length slots ≡ 64) × Ready call datagram reply → ent 𝓤 (onEntry 𝓤 H A found-in.signature κs qs a at) (WpFn 𝓤 H C Λ code.function (sliceVal (a .0 .ptr) (length slots) ∷ call-row .val call ∷ sliceVal (a .1 .1 .0 .ptr) (length datagram) ∷ sliceVal (a .1 .1 .1 .0 .ptr) (length reply) ∷ []) Post)
     walk room-slots room-datagram room-reply asked =
         qed W ((t0 ⊛ (t1 ⊛ (t2 ⊛ ‵ ftrue))) ∷ ‵ (owns (MutSlice (named 0) (κs .0) Slot-t.the-row ∷ Call-t.the-row ∷ ShrSlice (named 1) (κs .1 .0) u8 ∷ MutSlice (named 2) (κs .1 .1 .0) u8 ∷ []) a at) ∷ []) ∵
         split ! $ move ! (1 ∷ []) $ split ! $ move ! (1 ∷ []) $ split ! $ move ! (4 ∷ []) $ fsplit ! $ move ! (1 ∷ []) $ fsplit ! $ drop ! $ fsplit ! $ move ! (1 ∷ []) $ fsplit ! $ move ! (1 ∷ []) $ keep ! (3 ∷ 7 ∷ 2 ∷ 6 ∷ 1 ∷ 4 ∷ []) $
-        enter ! C Λ code.function (sliceVal (a .0 .ptr) (length slots) ∷ call-row .val (call) ∷ sliceVal (a .1 .1 .0 .ptr) (length datagram) ∷ sliceVal (a .1 .1 .1 .0 .ptr) (length reply) ∷ []) _ $
+        enter ! C Λ code.function (sliceVal (a .0 .ptr) (length slots) ∷ call-row .val call ∷ sliceVal (a .1 .1 .0 .ptr) (length datagram) ∷ sliceVal (a .1 .1 .1 .0 .ptr) (length reply) ∷ []) _ $
         alloc1 ! (λ l₀. alloc1 ! (λ l₁. alloc1 ! (λ l₂. alloc1 ! (λ l₃. alloc1 ! (λ l₄. alloc1 ! (λ l₅. alloc1 ! (λ l₆. alloc1 ! (λ l₇. alloc1 ! (λ l₈. alloc1 ! (λ l₉. alloc1 ! (λ l₁₀. alloc1 ! (λ l₁₁. alloc1 ! (λ l₁₂. alloc1 ! (λ l₁₃. alloc1 ! (λ l₁₄. alloc1 ! (λ l₁₅. alloc1 ! (λ l₁₆. alloc1 ! (λ l₁₇. alloc1 ! (λ l₁₈. alloc1 ! (λ l₁₉. alloc1 ! (λ l₂₀. alloc0 ! $ params1 ! $
         pass1 ! (init ! 38 refl (tt, (tt, (record { fits = room-slots .0 }, tt)))) $ pass1 ! (init ! 36 refl (call-typed 𝓤 H A W call is-call)) $ pass1 ! (init ! 34 refl (tt, (tt, (record { fits = room-datagram .0 }, tt)))) $ pass1 ! (init ! 32 refl (tt, (tt, (record { fits = room-reply .0 }, tt)))) $ pass0 ! $
         -- the references and their tokens first: from here local k stands at 46 - 2 k
@@ -119,44 +122,44 @@ module _ {M : Type 1} (𝓤 : URA M) (H : Heap 𝓤) (A : Atoms 𝓤) (W : Given
         assigns ! (agg ! (and-then ! (load ! (from ! (stop !)) (look ! 28 refl)) (and-then ! (load ! (from ! (fld ! refl (stop !))) (look-in ! 44 (sub ! 1 refl (whole !)))) (no-more !)))) (from ! (stop !)) (init ! 26 refl (tt, (tt, (record { fits = room-slots .0 }, tt)))) $
         -- `time_of`
         calls-value ! fm (uint-row w64) (time-of.clauses 𝓤 H A mem run) (λ r. _) (call-row, tt) (call, tt) tt known-time-of (is-call, tt) (asks-none 𝓤 H A) (λ r ws. id⊢ 𝓤 _)
-        (and-then ! (load ! (from ! (stop !)) (look ! 43 refl)) (no-more !)) (λ r11 is11 e11. land ! (from ! (stop !)) (init ! 24 refl (tt, record { fits = is11 .1 })) $
+        (and-then ! (load ! (from ! (stop !)) (look ! 43 refl)) (no-more !)) (λ r-time-of is-time-of e-time-of. land ! (from ! (stop !)) (init ! 24 refl (tt, record { fits = is-time-of .1 })) $
         -- `key_of`
-        calls-value ! fm (key-row) (key-of.clauses 𝓤 H A mem run) (λ r. _) (call-row, tt) (call, tt) tt known-key-of (is-call, tt) (asks-none 𝓤 H A) (λ r ws. id⊢ 𝓤 _)
-        (and-then ! (load ! (from ! (stop !)) (look ! 43 refl)) (no-more !)) (λ r12 is12 e12. land ! (from ! (stop !)) (init ! 22 refl (key-typed 𝓤 H A W (r12) (is12))) $
+        calls-value ! fm key-row (key-of.clauses 𝓤 H A mem run) (λ r. _) (call-row, tt) (call, tt) tt known-key-of (is-call, tt) (asks-none 𝓤 H A) (λ r ws. id⊢ 𝓤 _)
+        (and-then ! (load ! (from ! (stop !)) (look ! 43 refl)) (no-more !)) (λ r-key-of is-key-of e-key-of. land ! (from ! (stop !)) (init ! 22 refl (key-typed 𝓤 H A W r-key-of is-key-of)) $
         -- `search`
-        calls-shown ! fm Slot-t.the-row (found-row) (search.clauses 𝓤 H A mem run) (λ r. _) (named 0) (a .0 .ptr .0) (a .0 .ptr .1) (slots) (sliceVal (a .0 .ptr) (length slots)) (λ ν. (r11, (r12, tt))) (λ ν. (uint-row w64, (key-row, tt))) (λ ν δ. tt) known-search (λ ν. ((refl, is11 .1), (is12, tt))) (λ ν δ. (asks-none 𝓤 H A)) (λ ν δ r ws. id⊢ 𝓤 _)
-        (λ ν δ. (and-then ! (load ! (from ! (stop !)) (look ! 26 refl)) (and-then ! (load ! (from ! (stop !)) (look ! 24 refl)) (and-then ! (load ! (from ! (stop !)) (look ! 22 refl)) (no-more !))))) (λ r5 is5 e5. land ! (from ! (stop !)) (init ! 36 refl (found-typed 𝓤 H A W (r5) (is5))) $
+        calls-shown ! fm Slot-t.the-row found-row (search.clauses 𝓤 H A mem run) (λ r. _) (named 0) (a .0 .ptr .0) (a .0 .ptr .1) slots (sliceVal (a .0 .ptr) (length slots)) (λ ν. (r-time-of, (r-key-of, tt))) (λ ν. (uint-row w64, (key-row, tt))) (λ ν δ. tt) known-search (λ ν. ((refl, is-time-of .1), (is-key-of, tt))) (λ ν δ. (asks-none 𝓤 H A)) (λ ν δ r ws. id⊢ 𝓤 _)
+        (λ ν δ. (and-then ! (load ! (from ! (stop !)) (look ! 26 refl)) (and-then ! (load ! (from ! (stop !)) (look ! 24 refl)) (and-then ! (load ! (from ! (stop !)) (look ! 22 refl)) (no-more !))))) (λ r-search is-search e-search. land ! (from ! (stop !)) (init ! 36 refl (found-typed 𝓤 H A W r-search is-search)) $
         -- `place_of`
-        calls-value ! fm (uint-row w64) (place-of.clauses 𝓤 H A mem run) (λ r. _) (found-row, tt) (r5, tt) tt known-place-of (is5, tt) (asks-none 𝓤 H A) (λ r ws. id⊢ 𝓤 _)
-        (and-then ! (load ! (from ! (stop !)) (look ! 37 refl)) (no-more !)) (λ r6 is6 e6. land ! (from ! (stop !)) (init ! 34 refl (tt, record { fits = is6 .1 })) $
-        let searched-is = found-searched call slots e11 e12 e5 in
-        let placed : r6 < length slots = found-within call slots (asked .0) searched-is e6 in
+        calls-value ! fm (uint-row w64) (place-of.clauses 𝓤 H A mem run) (λ r. _) (found-row, tt) (r-search, tt) tt known-place-of (is-search, tt) (asks-none 𝓤 H A) (λ r ws. id⊢ 𝓤 _)
+        (and-then ! (load ! (from ! (stop !)) (look ! 37 refl)) (no-more !)) (λ r-place-of is-place-of e-place-of. land ! (from ! (stop !)) (init ! 34 refl (tt, record { fits = is-place-of .1 })) $
+        let searched-is = found-searched call slots e-time-of e-key-of e-search in
+        let placed : r-place-of < length slots = found-within call slots (asked .0) searched-is e-place-of in
         assigns ! (addr ! (from ! (fld ! refl (hop ! (look-in ! 44 (sub ! 0 refl (whole !))) (stop !))))) (from ! (stop !)) (init ! 20 refl (tt, tt)) $
         assigns ! (agg ! (and-then ! (load ! (from ! (stop !)) (look ! 20 refl)) (and-then ! (load ! (from ! (fld ! refl (stop !))) (look-in ! 44 (sub ! 1 refl (whole !)))) (no-more !)))) (from ! (stop !)) (init ! 18 refl (tt, (tt, (record { fits = room-slots .0 }, tt)))) $
         -- `slot_at`
-        calls-shown ! fm Slot-t.the-row (slot-row) (slot-at.clauses 𝓤 H A mem run) (λ r. _) (named 0) (a .0 .ptr .0) (a .0 .ptr .1) (slots) (sliceVal (a .0 .ptr) (length slots)) (λ ν. (r6, tt)) (λ ν. (uint-row w64, tt)) (λ ν δ. tt) known-slot-at (λ ν. ((refl, is6 .1), tt)) (λ ν δ. shown 𝓤 H A placed) (λ ν δ r ws. id⊢ 𝓤 _)
-        (λ ν δ. (and-then ! (load ! (from ! (stop !)) (look ! 18 refl)) (and-then ! (load ! (from ! (stop !)) (look ! 34 refl)) (no-more !)))) (λ r7 is7 e7. land ! (from ! (stop !)) (init ! 32 refl (slot-typed 𝓤 H A W (r7) (is7))) $
+        calls-shown ! fm Slot-t.the-row slot-row (slot-at.clauses 𝓤 H A mem run) (λ r. _) (named 0) (a .0 .ptr .0) (a .0 .ptr .1) slots (sliceVal (a .0 .ptr) (length slots)) (λ ν. (r-place-of, tt)) (λ ν. (uint-row w64, tt)) (λ ν δ. tt) known-slot-at (λ ν. ((refl, is-place-of .1), tt)) (λ ν δ. (shown 𝓤 H A placed)) (λ ν δ r ws. id⊢ 𝓤 _)
+        (λ ν δ. (and-then ! (load ! (from ! (stop !)) (look ! 18 refl)) (and-then ! (load ! (from ! (stop !)) (look ! 34 refl)) (no-more !)))) (λ r-slot-at is-slot-at e-slot-at. land ! (from ! (stop !)) (init ! 32 refl (slot-typed 𝓤 H A W r-slot-at is-slot-at)) $
         assigns ! (addr ! (from ! (fld ! refl (hop ! (look-in ! 38 (sub ! 0 refl (whole !))) (stop !))))) (from ! (stop !)) (init ! 16 refl (tt, tt)) $
         assigns ! (agg ! (and-then ! (load ! (from ! (stop !)) (look ! 16 refl)) (and-then ! (load ! (from ! (fld ! refl (stop !))) (look-in ! 38 (sub ! 1 refl (whole !)))) (no-more !)))) (from ! (stop !)) (init ! 14 refl (tt, (tt, (record { fits = room-reply .0 }, tt)))) $
         -- `on_found`
         move ! (4 ∷ 5 ∷ []) $
         move ! (4 ∷ 5 ∷ []) $
-        calls-both ! fm u8 u8 (answer-row) (on-found.clauses 𝓤 H A mem run) (λ r zs. _) (named 1) (a .1 .1 .0 .ptr .0) (a .1 .1 .0 .ptr .1) (datagram) (sliceVal (a .1 .1 .0 .ptr) (length datagram)) (named 2) (a .1 .1 .1 .0 .ptr .0) (a .1 .1 .1 .0 .ptr .1) (reply) (sliceVal (a .1 .1 .1 .0 .ptr) (length reply)) (λ ν. (call, (r5, (r7, tt)))) (λ ν. (call-row, (found-row, (slot-row, tt)))) (λ ν δ. tt) known-on-found (λ ν. (is-call, (is5, (is7, tt)))) (λ ν δ. shown 𝓤 H A (asked .1)) (λ ν δ r ws. id⊢ 𝓤 _)
-        (λ ν δ. (and-then ! (load ! (from ! (stop !)) (look ! 40 refl)) (and-then ! (load ! (from ! (stop !)) (look ! 14 refl)) (and-then ! (load ! (from ! (stop !)) (look ! 42 refl)) (and-then ! (load ! (from ! (stop !)) (look ! 36 refl)) (and-then ! (load ! (from ! (stop !)) (look ! 32 refl)) (no-more !))))))) (λ r8 zs8 l8 is8 e8. land ! (from ! (stop !)) (init ! 30 refl (answer-typed 𝓤 H A W (r8) (is8))) $
+        calls-both ! fm u8 u8 answer-row (on-found.clauses 𝓤 H A mem run) (λ r zs. _) (named 1) (a .1 .1 .0 .ptr .0) (a .1 .1 .0 .ptr .1) datagram (sliceVal (a .1 .1 .0 .ptr) (length datagram)) (named 2) (a .1 .1 .1 .0 .ptr .0) (a .1 .1 .1 .0 .ptr .1) reply (sliceVal (a .1 .1 .1 .0 .ptr) (length reply)) (λ ν. (call, (r-search, (r-slot-at, tt)))) (λ ν. (call-row, (found-row, (slot-row, tt)))) (λ ν δ. tt) known-on-found (λ ν. (is-call, (is-search, (is-slot-at, tt)))) (λ ν δ. (shown 𝓤 H A (asked .1))) (λ ν δ r ws. id⊢ 𝓤 _)
+        (λ ν δ. (and-then ! (load ! (from ! (stop !)) (look ! 40 refl)) (and-then ! (load ! (from ! (stop !)) (look ! 14 refl)) (and-then ! (load ! (from ! (stop !)) (look ! 42 refl)) (and-then ! (load ! (from ! (stop !)) (look ! 36 refl)) (and-then ! (load ! (from ! (stop !)) (look ! 32 refl)) (no-more !))))))) (λ r-on-found zs-on-found l-on-found is-on-found e-on-found. land ! (from ! (stop !)) (init ! 30 refl (answer-typed 𝓤 H A W r-on-found is-on-found)) $
         assigns ! (addr ! (from ! (fld ! refl (hop ! (look-in ! 44 (sub ! 0 refl (whole !))) (stop !))))) (from ! (stop !)) (init ! 10 refl (tt, tt)) $
         assigns ! (agg ! (and-then ! (load ! (from ! (stop !)) (look ! 10 refl)) (and-then ! (load ! (from ! (fld ! refl (stop !))) (look-in ! 44 (sub ! 1 refl (whole !)))) (no-more !)))) (from ! (stop !)) (init ! 8 refl (tt, (tt, (record { fits = room-slots .0 }, tt)))) $
         -- `slot_of`
-        calls-value ! fm (slot-row) (slot-of.clauses 𝓤 H A mem run) (λ r. _) (answer-row, tt) (r8, tt) tt known-slot-of (is8, tt) (asks-none 𝓤 H A) (λ r ws. id⊢ 𝓤 _)
-        (and-then ! (load ! (from ! (stop !)) (look ! 31 refl)) (no-more !)) (λ r20 is20 e20. land ! (from ! (stop !)) (init ! 6 refl (slot-typed 𝓤 H A W (r20) (is20))) $
+        calls-value ! fm slot-row (slot-of.clauses 𝓤 H A mem run) (λ r. _) (answer-row, tt) (r-on-found, tt) tt known-slot-of (is-on-found, tt) (asks-none 𝓤 H A) (λ r ws. id⊢ 𝓤 _)
+        (and-then ! (load ! (from ! (stop !)) (look ! 31 refl)) (no-more !)) (λ r-slot-of is-slot-of e-slot-of. land ! (from ! (stop !)) (init ! 6 refl (slot-typed 𝓤 H A W r-slot-of is-slot-of)) $
         -- `put_slot`
         move ! (4 ∷ 5 ∷ []) $
-        calls-lent ! fm Slot-t.the-row (unit-row) (put-slot.clauses 𝓤 H A mem run) (λ r zs. _) (named 0) (a .0 .ptr .0) (a .0 .ptr .1) (slots) (sliceVal (a .0 .ptr) (length slots)) (λ ν. (r6, (r20, tt))) (λ ν. (uint-row w64, (slot-row, tt))) (λ ν δ. tt) known-put-slot (λ ν. ((refl, is6 .1), (is20, tt))) (λ ν δ. shown 𝓤 H A placed) (λ ν δ r ws. id⊢ 𝓤 _)
-        (λ ν δ. (and-then ! (load ! (from ! (stop !)) (look ! 8 refl)) (and-then ! (load ! (from ! (stop !)) (look ! 34 refl)) (and-then ! (load ! (from ! (stop !)) (look ! 6 refl)) (no-more !))))) (λ r17 zs17 l17 is17 e17. land ! (from ! (stop !)) (init ! 12 refl (tt, tt)) $
+        calls-lent ! fm Slot-t.the-row unit-row (put-slot.clauses 𝓤 H A mem run) (λ r zs. _) (named 0) (a .0 .ptr .0) (a .0 .ptr .1) slots (sliceVal (a .0 .ptr) (length slots)) (λ ν. (r-place-of, (r-slot-of, tt))) (λ ν. (uint-row w64, (slot-row, tt))) (λ ν δ. tt) known-put-slot (λ ν. ((refl, is-place-of .1), (is-slot-of, tt))) (λ ν δ. (shown 𝓤 H A placed)) (λ ν δ r ws. id⊢ 𝓤 _)
+        (λ ν δ. (and-then ! (load ! (from ! (stop !)) (look ! 8 refl)) (and-then ! (load ! (from ! (stop !)) (look ! 34 refl)) (and-then ! (load ! (from ! (stop !)) (look ! 6 refl)) (no-more !))))) (λ r-put-slot zs-put-slot l-put-slot is-put-slot e-put-slot. land ! (from ! (stop !)) (init ! 12 refl (tt, tt)) $
         -- `outcome_of`
-        calls-value ! fm (outcome-row) (outcome-of.clauses 𝓤 H A mem run) (λ r. _) (answer-row, tt) (r8, tt) tt known-outcome-of (is8, tt) (asks-none 𝓤 H A) (λ r ws. id⊢ 𝓤 _)
-        (and-then ! (load ! (from ! (stop !)) (look ! 31 refl)) (no-more !)) (λ r0 is0 e0. land ! (from ! (stop !)) (init ! 46 refl (outcome-typed 𝓤 H A W (r0) (is0))) $
+        calls-value ! fm outcome-row (outcome-of.clauses 𝓤 H A mem run) (λ r. _) (answer-row, tt) (r-on-found, tt) tt known-outcome-of (is-on-found, tt) (asks-none 𝓤 H A) (λ r ws. id⊢ 𝓤 _)
+        (and-then ! (load ! (from ! (stop !)) (look ! 31 refl)) (no-more !)) (λ r-outcome-of is-outcome-of e-outcome-of. land ! (from ! (stop !)) (init ! 46 refl (outcome-typed 𝓤 H A W r-outcome-of is-outcome-of)) $
         returns ! (look ! 46 refl) $ out ! 46 refl refl $ out ! 44 refl refl $ out ! 42 refl refl $ out ! 40 refl refl $ out ! 38 refl refl $ out ! 36 refl refl $ out ! 34 refl refl $ out ! 32 refl refl $ out ! 30 refl refl $ out ! 28 refl refl $ out ! 26 refl refl $ out ! 24 refl refl $ out ! 22 refl refl $ out ! 20 refl refl $ out ! 18 refl refl $ out ! 16 refl refl $ out ! 14 refl refl $ out ! 12 refl refl $ out ! 10 refl refl $ out ! 8 refl refl $ out ! 6 refl refl $ free0 ! $
-        keep ! (0 ∷ 1 ∷ 2 ∷ 3 ∷ 4 ∷ 5 ∷ []) $ by ! (exits r0 zs17 zs8 (found-acted call datagram searched-is e6 e7 e8 e20 e17 e0) l17 l8 is0)))))))))))))))))))))))))))))))
+        keep ! (0 ∷ 1 ∷ 2 ∷ 3 ∷ 4 ∷ 5 ∷ []) $ by ! (exits r-outcome-of zs-put-slot zs-on-found (found-acted call datagram searched-is e-place-of e-slot-at e-on-found e-slot-of e-put-slot e-outcome-of) l-put-slot l-on-found is-outcome-of)))))))))))))))))))))))))))))))
 
 pub found-in-spec : {M : Type 1} → stated.statement M
 unfolding code.routine

@@ -1,11 +1,12 @@
--- `script::run_line` meets its contract: a walk of its MIR, by hand.
-use Rattle.slots.proofs.Pre.{arith, replicate, length-replicate, ℕ, _<_, _^_, _-_, ftrue, flft, SProp, ent, emp, via, fst∗, id⊢, Lfts, Shares, Fun, givenOf, tables, u64, u8, yes, Is, uint-vals, uint-tells, owns, MutRef, ptr-vals, mut-tells, plain, sliceVal, MutSlice, Room, slice-vals, mut-slice-tells, ShrSlice, shr-slice-tells, owned, nothing, onEntry, Args, Vals, Triple, cited, says, needs, Stays, stay-slice, stay-none, walkOf, goes-slice, goes-none, ends-at, walked, stay-none-slice, goes-none-slice, stay-ref, goes-ref, Atoms, fullShare, URA, lit<, length, set, getD, replicate, [], _∷_, List, refl, sym, _≡_, _∙_, ap, subst, named, w64, w8, Val, vint, vptr, arith, Memory, Routine, Heap, Calls, Loops, WpFn, FmC, Given, feqL, ‵, _⊛_, ⋆, _$_, _∵_, !, qed, by, move, drop, split, join, fsplit, fjoin, suffices, frame, done, keep, Item, whole, sub, look-in, agg, look, init, stop, hop, fld, from, load, lit, of-opd, bin, assigns, returns, enter, alloc1, alloc0, params1, pass1, pass0, free0, store, and-then, no-more, land, addr, returns-within}
-use Rattle.slots.proofs.Walk.{holds-true, fails-false, is-repeat, repeats, big-lit, uint-row, bool-row, ref, shown, asks-none, array-row, is-repeat, repeats, big-lit, Of, tokens, calls-any, calls-value, out, out-room, guards, framed-calls, finish}
-use Rattle.slots.proofs.Lends.{lend-slice, back-slice, lend-ref, back-ref, copy-slice, lend-array-at, back-array-at, show-array-at, hide-array-at, calls-lent}
+-- `script::run_line` meets its contract: a walk of its MIR, made by tools/rewalk.
+use Rattle.walk.proofs.Pre.{ℕ, _<_, _^_, _-_, ftrue, flft, SProp, ent, emp, via, fst∗, id⊢, Lfts, Shares, Fun, givenOf, tables, u64, u8, yes, Is, uint-vals, uint-tells, owns, MutRef, ptr-vals, mut-tells, plain, sliceVal, MutSlice, Room, slice-vals, mut-slice-tells, ShrSlice, shr-slice-tells, owned, nothing, onEntry, Args, Vals, Triple, cited, says, Stays, stay-slice, stay-none, walkOf, goes-slice, goes-none, ends-at, walked, stay-none-slice, goes-none-slice, stay-ref, goes-ref, Atoms, fullShare, URA, lit<, length, replicate, length-replicate, [], _∷_, List, refl, _≡_, named, w64, w8, Val, vint, vptr, arith, Memory, Routine, Heap, Calls, Loops, WpFn, FmC, Given, feqL, ‵, _⊛_, ⋆, _$_, _∵_, !, qed, by, move, drop, split, join, fsplit, fjoin, suffices, frame, done, keep, Item, whole, sub, look-in, agg, look, init, stop, hop, fld, from, load, lit, of-opd, bin, assigns, returns, enter, alloc1, alloc0, params1, pass1, pass0, free0, store, and-then, no-more, land, addr, returns-within}
+use Rattle.walk.proofs.Walk.{uint-row, bool-row, ref, shown, asks-none, array-row, is-repeat, repeats, big-lit, Of, tokens, calls-any, calls-value, out, out-room, guards, holds-true, fails-false, framed-calls, finish}
+use Rattle.walk.proofs.Lends.{lend-slice, back-slice, lend-ref, back-ref, copy-slice, lend-array-at, back-array-at, show-array-at, hide-array-at, calls-lent}
 use Rattle.relay.proofs.Rows.{call-row, call-typed}
-use Rattle.relay.proofs.calls.Call as Call-t
 use Rattle.script.proofs.Rows.{readline-row, readline-typed}
-use Rattle.script.proofs.lines.ReadLine as ReadLine-t
+use Rattle.relay.specs.declared.calls.Call.{Call}
+use Rattle.relay.proofs.calls.Call as Call-t
+use Rattle.script.specs.declared.lines.ReadLine.{ReadLine}
 use Rattle.table.specs.declared.Slot.{Slot}
 use Rattle.table.proofs.Slot as Slot-t
 use Rattle.script.proofs.read_in as read-in
@@ -97,7 +98,7 @@ module _ {M : Type 1} (𝓤 : URA M) (H : Heap 𝓤) (A : Atoms 𝓤) (W : Given
   abbrev Said : ℕ → List Slot → ℕ → List ℕ → Type 0
   Said r z-slots z-clock z-output = Runs (lineOf (lineIn start end input)) slots z-slots now-clock z-clock output z-output r
 
-  exits : (r : ℕ) (z-slots : List Slot) (z-clock : ℕ) (z-output : List ℕ) → Said r z-slots z-clock z-output → length z-slots ≡ length slots → length z-output ≡ length output → Is u64 (r) (vint w64 r ∷ [])
+  exits : (r : ℕ) (z-slots : List Slot) (z-clock : ℕ) (z-output : List ℕ) → Said r z-slots z-clock z-output → length z-slots ≡ length slots → length z-output ≡ length output → Is u64 r (vint w64 r ∷ [])
       → ent 𝓤 (⋆ 𝓤 H A (Own-slots z-slots ∷ t0 ∷ Own-clock z-clock ∷ t1 ∷ Own-input input ∷ t2 ∷ Own-output z-output ∷ t3 ∷ [])) (Post (vint w64 r))
   exits r z-slots z-clock z-output e l-slots l-output is =
       qed W (Own-slots z-slots ∷ t0 ∷ Own-clock z-clock ∷ t1 ∷ Own-input input ∷ t2 ∷ Own-output z-output ∷ t3 ∷ []) ∵
@@ -121,69 +122,69 @@ module _ {M : Type 1} (𝓤 : URA M) (H : Heap 𝓤) (A : Atoms 𝓤) (W : Given
         (λ held.
         assigns ! (of-opd ! (lit ! tt)) (from ! (stop !)) (init ! 60 refl (tt, record { fits = lit< tt })) $
         returns-within ! Post refl (look ! 60 refl) $ out ! 60 refl refl $ out ! 58 refl refl $ out ! 56 refl refl $ out ! 54 refl refl $ out ! 52 refl refl $ out ! 50 refl refl $ out ! 48 refl refl $ out-room ! 46 refl refl $ out-room ! 44 refl refl $ out-room ! 42 refl refl $ out ! 40 refl refl $ out ! 38 refl refl $ out-room ! 36 refl refl $ out-room ! 34 refl refl $ out-room ! 32 refl refl $ out-room ! 30 refl refl $ out-room ! 28 refl refl $ out-room ! 26 refl refl $ out-room ! 24 refl refl $ out-room ! 22 refl refl $ out-room ! 20 refl refl $ out-room ! 18 refl refl $ out-room ! 16 refl refl $ out-room ! 14 refl refl $ out-room ! 12 refl refl $ out-room ! 10 refl refl $ out-room ! 8 refl refl $ free0 ! $
-        keep ! (0 ∷ 1 ∷ 2 ∷ 3 ∷ 4 ∷ 5 ∷ 6 ∷ 7 ∷ []) $ by ! (exits (0) (slots) (now-clock) (output) (runs-small (lineOf (lineIn start end input)) (holds-true _ held)) refl refl (refl, lit< tt)))
+        keep ! (0 ∷ 1 ∷ 2 ∷ 3 ∷ 4 ∷ 5 ∷ 6 ∷ 7 ∷ []) $ by ! (exits 0 slots now-clock output (runs-small (lineOf (lineIn start end input)) (holds-true _ held)) refl refl (refl, lit< tt)))
         (λ failed.
         let long = fails-false _ failed in
-        assigns ! (repeats ! (uint-row w8) 1600 0 (lit ! tt)) (from ! (stop !)) (init ! 46 refl ((array-row (uint-row w8) 1600) .lawful 𝓤 H A W .typed ((replicate 1600 0)) _ ((is-repeat (uint-row w8) 1600 0 (refl, lit< tt))) .0)) $
+        assigns ! (repeats ! (uint-row w8) 1600 0 (lit ! tt)) (from ! (stop !)) (init ! 46 refl ((array-row (uint-row w8) 1600) .lawful 𝓤 H A W .typed (replicate 1600 0) _ (is-repeat (uint-row w8) 1600 0 (refl, lit< tt)) .0)) $
         assigns ! (addr ! (from ! (stop !))) (from ! (stop !)) (init ! 36 refl (tt, tt)) $
         assigns ! (agg ! (and-then ! (load ! (from ! (stop !)) (look ! 36 refl)) (and-then ! (big-lit ! (lit< tt)) (no-more !)))) (from ! (stop !)) (init ! 34 refl (tt, (tt, (record { fits = lit< tt }, tt)))) $
         -- `read_in`
-        lend-array-at ! 46 tt (uint-row w8) tt 1600 (named 1) (replicate 1600 0) (is-repeat (uint-row w8) 1600 0 (refl, lit< tt)) (lit< tt, lit< tt) l₇ 0 refl (λ ν₈-3 δ₈-3 len₈-3.
+        lend-array-at ! 46 tt (uint-row w8) tt 1600 (named 1) (replicate 1600 0) (is-repeat (uint-row w8) 1600 0 (refl, lit< tt)) (lit< tt, lit< tt) l₇ 0 refl (λ ν-read-in-buffer δ-read-in-buffer len-read-in-buffer.
         move ! (6 ∷ 7 ∷ []) $ copy-slice ! u8 (named 2) (a .1 .1 .0 .ptr .0) (a .1 .1 .0 .ptr .1) input (sliceVal (a .1 .1 .0 .ptr) (length input)) $
         nothing ! $ move ! (6 ∷ 0 ∷ []) $ join ! $ move ! (2 ∷ 0 ∷ []) $ join ! $ nothing ! $ move ! (5 ∷ 0 ∷ []) $ fjoin ! $ owned ! u64 (Is u64) ((uint-row w64) .makes 𝓤 H A W) end _ (refl, g-end) $ fjoin ! $ owned ! u64 (Is u64) ((uint-row w64) .makes 𝓤 H A W) start _ (refl, g-start) $ fjoin ! $ move ! (2 ∷ 0 ∷ []) $ fjoin ! $ move ! (1 ∷ 0 ∷ []) $
-        calls-any ! fm read-in.ended (read-in.clauses 𝓤 H A mem run) (κs .1 .1 .0, (ν₈-3 ∷ [], tt)) (qs .1 .1 .0, (fullShare, tt)) tt (readline-row) (ref (a .1 .1 .0 .ptr .0) (a .1 .1 .0 .ptr .1) (a .1 .1 .0 .name) input, (start, (end, (ref l₇ 0 δ₈-3 (replicate 1600 0), tt)))) (sliceVal (a .1 .1 .0 .ptr) (length input) ∷ [], (vint w64 start ∷ [], (vint w64 end ∷ [], (sliceVal (l₇, 0) 1600 ∷ [], tt)))) tt (λ r ws. _) known-read-in (shown 𝓤 H A (omega (arith, length-replicate {A = ℕ} 1600 0))) (λ r ws. id⊢ 𝓤 _)
-        (and-then ! (load ! (from ! (stop !)) (look ! 55 refl)) (and-then ! (load ! (from ! (stop !)) (look ! 53 refl)) (and-then ! (load ! (from ! (stop !)) (look ! 51 refl)) (and-then ! (load ! (from ! (stop !)) (look ! 35 refl)) (no-more !))))) (λ r8 ws8 is8 e8.
-        split ! $ move ! (1 ∷ []) $ split ! $ move ! (1 ∷ []) $ drop ! $ move ! (2 ∷ []) $ fsplit ! $ drop ! $ move ! (2 ∷ 3 ∷ 4 ∷ []) $ move ! (1 ∷ 0 ∷ 2 ∷ []) $ move ! (2 ∷ []) $ drop ! $ move ! (2 ∷ []) $ fsplit ! $ drop ! $ fsplit ! $ drop ! $ fsplit ! $ fsplit ! $ move ! (1 ∷ []) $ feqL ! (λ l8-3. move ! (0 ∷ 4 ∷ []) $
-        back-array-at ! 47 tt (uint-row w8) tt 1600 (ws8 .1 .1 .1 .0) l₇ 0 refl (λ back₈-3.
+        calls-any ! fm read-in.ended (read-in.clauses 𝓤 H A mem run) (κs .1 .1 .0, (ν-read-in-buffer ∷ [], tt)) (qs .1 .1 .0, (fullShare, tt)) tt readline-row (ref (a .1 .1 .0 .ptr .0) (a .1 .1 .0 .ptr .1) (a .1 .1 .0 .name) input, (start, (end, (ref l₇ 0 δ-read-in-buffer (replicate 1600 0), tt)))) (sliceVal (a .1 .1 .0 .ptr) (length input) ∷ [], (vint w64 start ∷ [], (vint w64 end ∷ [], (sliceVal (l₇, 0) 1600 ∷ [], tt)))) tt (λ r ws. _) known-read-in (shown 𝓤 H A (omega (arith, length-replicate {A = ℕ} 1600 0))) (λ r ws. id⊢ 𝓤 _)
+        (and-then ! (load ! (from ! (stop !)) (look ! 55 refl)) (and-then ! (load ! (from ! (stop !)) (look ! 53 refl)) (and-then ! (load ! (from ! (stop !)) (look ! 51 refl)) (and-then ! (load ! (from ! (stop !)) (look ! 35 refl)) (no-more !))))) (λ r-read-in ws-read-in is-read-in e-read-in.
+        split ! $ move ! (1 ∷ []) $ split ! $ move ! (1 ∷ []) $ drop ! $ move ! (2 ∷ []) $ fsplit ! $ drop ! $ move ! (2 ∷ 3 ∷ 4 ∷ []) $ move ! (1 ∷ 0 ∷ 2 ∷ []) $ move ! (2 ∷ []) $ drop ! $ move ! (2 ∷ []) $ fsplit ! $ drop ! $ fsplit ! $ drop ! $ fsplit ! $ fsplit ! $ move ! (1 ∷ []) $ feqL ! (λ l-read-in-buffer. move ! (0 ∷ 4 ∷ []) $
+        back-array-at ! 47 tt (uint-row w8) tt 1600 (ws-read-in .1 .1 .1 .0) l₇ 0 refl (λ back-read-in-buffer.
         drop ! $
-        land ! (from ! (stop !)) (init ! 44 refl (readline-typed 𝓤 H A W (r8) (is8))) $
+        land ! (from ! (stop !)) (init ! 44 refl (readline-typed 𝓤 H A W r-read-in is-read-in)) $
         -- `is_bad`
-        calls-value ! fm (bool-row) (is-bad.clauses 𝓤 H A mem run) (λ r. _) (readline-row, tt) (r8, tt) tt known-is-bad (is8, tt) (asks-none 𝓤 H A) (λ r ws. id⊢ 𝓤 _)
-        (and-then ! (load ! (from ! (stop !)) (look ! 45 refl)) (no-more !)) (λ r14 is14 e14. land ! (from ! (stop !)) (init ! 32 refl (tt, tt)) $
+        calls-value ! fm bool-row (is-bad.clauses 𝓤 H A mem run) (λ r. _) (readline-row, tt) (r-read-in, tt) tt known-is-bad (is-read-in, tt) (asks-none 𝓤 H A) (λ r ws. id⊢ 𝓤 _)
+        (and-then ! (load ! (from ! (stop !)) (look ! 45 refl)) (no-more !)) (λ r-is-bad is-is-bad e-is-bad. land ! (from ! (stop !)) (init ! 32 refl (tt, tt)) $
         guards ! (load ! (from ! (stop !)) (look ! 32 refl))
         (λ held.
         assigns ! (addr ! (from ! (fld ! refl (hop ! (look-in ! 48 (sub ! 0 refl (whole !))) (stop !))))) (from ! (stop !)) (init ! 30 refl (tt, tt)) $
         assigns ! (agg ! (and-then ! (load ! (from ! (stop !)) (look ! 30 refl)) (and-then ! (load ! (from ! (fld ! refl (stop !))) (look-in ! 48 (sub ! 1 refl (whole !)))) (no-more !)))) (from ! (stop !)) (init ! 28 refl (tt, (tt, (record { fits = room-output .0 }, tt)))) $
         -- `put_bad`
         move ! (6 ∷ 7 ∷ []) $
-        calls-lent ! fm u8 (uint-row w64) (put-bad.clauses 𝓤 H A mem run) (λ r zs. _) (named 3) (a .1 .1 .1 .1 .1 .0 .ptr .0) (a .1 .1 .1 .1 .1 .0 .ptr .1) (output) (sliceVal (a .1 .1 .1 .1 .1 .0 .ptr) (length output)) (λ ν. tt) (λ ν. tt) (λ ν δ. tt) known-put-bad (λ ν. tt) (λ ν δ. shown 𝓤 H A (ltb-false (length output) 4096 long)) (λ ν δ r ws. id⊢ 𝓤 _)
-        (λ ν δ. (and-then ! (load ! (from ! (stop !)) (look ! 28 refl)) (no-more !))) (λ r0 zs0 l0 is0 e0. land ! (from ! (stop !)) (init ! 60 refl (tt, record { fits = is0 .1 })) $
+        calls-lent ! fm u8 (uint-row w64) (put-bad.clauses 𝓤 H A mem run) (λ r zs. _) (named 3) (a .1 .1 .1 .1 .1 .0 .ptr .0) (a .1 .1 .1 .1 .1 .0 .ptr .1) output (sliceVal (a .1 .1 .1 .1 .1 .0 .ptr) (length output)) (λ ν. tt) (λ ν. tt) (λ ν δ. tt) known-put-bad (λ ν. tt) (λ ν δ. (shown 𝓤 H A (ltb-false (length output) 4096 long))) (λ ν δ r ws. id⊢ 𝓤 _)
+        (λ ν δ. (and-then ! (load ! (from ! (stop !)) (look ! 28 refl)) (no-more !))) (λ r-put-bad zs-put-bad l-put-bad is-put-bad e-put-bad. land ! (from ! (stop !)) (init ! 60 refl (tt, record { fits = is-put-bad .1 })) $
         returns-within ! Post refl (look ! 60 refl) $ out ! 60 refl refl $ out ! 58 refl refl $ out ! 56 refl refl $ out ! 54 refl refl $ out ! 52 refl refl $ out ! 50 refl refl $ out ! 48 refl refl $ out ! 46 refl refl $ out ! 44 refl refl $ out-room ! 42 refl refl $ out ! 40 refl refl $ out ! 38 refl refl $ out ! 36 refl refl $ out ! 34 refl refl $ out ! 32 refl refl $ out ! 30 refl refl $ out ! 28 refl refl $ out-room ! 26 refl refl $ out-room ! 24 refl refl $ out-room ! 22 refl refl $ out-room ! 20 refl refl $ out-room ! 18 refl refl $ out-room ! 16 refl refl $ out-room ! 14 refl refl $ out-room ! 12 refl refl $ out-room ! 10 refl refl $ out-room ! 8 refl refl $ free0 ! $
-        keep ! (4 ∷ 5 ∷ 6 ∷ 7 ∷ 2 ∷ 3 ∷ 0 ∷ 1 ∷ []) $ by ! (exits (r0) (slots) (now-clock) (zs0) (runs-bad (lineOf (lineIn start end input)) long e8 e14 (holds-true _ held) e0) refl l0 (refl, is0 .1))))
+        keep ! (4 ∷ 5 ∷ 6 ∷ 7 ∷ 2 ∷ 3 ∷ 0 ∷ 1 ∷ []) $ by ! (exits r-put-bad slots now-clock zs-put-bad (runs-bad (lineOf (lineIn start end input)) long e-read-in e-is-bad (holds-true _ held) e-put-bad) refl l-put-bad (refl, is-put-bad .1))))
         (λ failed.
-        assigns ! (repeats ! (uint-row w8) 1536 0 (lit ! tt)) (from ! (stop !)) (init ! 42 refl ((array-row (uint-row w8) 1536) .lawful 𝓤 H A W .typed ((replicate 1536 0)) _ ((is-repeat (uint-row w8) 1536 0 (refl, lit< tt))) .0)) $
+        assigns ! (repeats ! (uint-row w8) 1536 0 (lit ! tt)) (from ! (stop !)) (init ! 42 refl ((array-row (uint-row w8) 1536) .lawful 𝓤 H A W .typed (replicate 1536 0) _ (is-repeat (uint-row w8) 1536 0 (refl, lit< tt)) .0)) $
         assigns ! (addr ! (from ! (fld ! refl (hop ! (look-in ! 58 (sub ! 0 refl (whole !))) (stop !))))) (from ! (stop !)) (init ! 26 refl (tt, tt)) $
         assigns ! (agg ! (and-then ! (load ! (from ! (stop !)) (look ! 26 refl)) (and-then ! (load ! (from ! (fld ! refl (stop !))) (look-in ! 58 (sub ! 1 refl (whole !)))) (no-more !)))) (from ! (stop !)) (init ! 24 refl (tt, (tt, (record { fits = room-slots .0 }, tt)))) $
         assigns ! (addr ! (from ! (hop ! (look ! 56 refl) (stop !)))) (from ! (stop !)) (init ! 22 refl (tt, tt)) $
         -- `call_in`
-        calls-value ! fm (call-row) (call-in.clauses 𝓤 H A mem run) (λ r. _) (readline-row, tt) (r8, tt) tt known-call-in (is8, tt) (asks-none 𝓤 H A) (λ r ws. id⊢ 𝓤 _)
-        (and-then ! (load ! (from ! (stop !)) (look ! 45 refl)) (no-more !)) (λ r20 is20 e20. land ! (from ! (stop !)) (init ! 20 refl (call-typed 𝓤 H A W (r20) (is20))) $
+        calls-value ! fm call-row (call-in.clauses 𝓤 H A mem run) (λ r. _) (readline-row, tt) (r-read-in, tt) tt known-call-in (is-read-in, tt) (asks-none 𝓤 H A) (λ r ws. id⊢ 𝓤 _)
+        (and-then ! (load ! (from ! (stop !)) (look ! 45 refl)) (no-more !)) (λ r-call-in is-call-in e-call-in. land ! (from ! (stop !)) (init ! 20 refl (call-typed 𝓤 H A W r-call-in is-call-in)) $
         assigns ! (addr ! (from ! (stop !))) (from ! (stop !)) (init ! 18 refl (tt, tt)) $
         assigns ! (agg ! (and-then ! (load ! (from ! (stop !)) (look ! 18 refl)) (and-then ! (big-lit ! (lit< tt)) (no-more !)))) (from ! (stop !)) (init ! 16 refl (tt, (tt, (record { fits = lit< tt }, tt)))) $
         -- `length_in`
-        calls-value ! fm (uint-row w64) (length-in.clauses 𝓤 H A mem run) (λ r. _) (readline-row, tt) (r8, tt) tt known-length-in (is8, tt) (asks-none 𝓤 H A) (λ r ws. id⊢ 𝓤 _)
-        (and-then ! (load ! (from ! (stop !)) (look ! 45 refl)) (no-more !)) (λ r10 is10 e10. land ! (from ! (stop !)) (store ! 40 refl (tt, record { fits = is10 .1 })) $
+        calls-value ! fm (uint-row w64) (length-in.clauses 𝓤 H A mem run) (λ r. _) (readline-row, tt) (r-read-in, tt) tt known-length-in (is-read-in, tt) (asks-none 𝓤 H A) (λ r ws. id⊢ 𝓤 _)
+        (and-then ! (load ! (from ! (stop !)) (look ! 45 refl)) (no-more !)) (λ r-length-in is-length-in e-length-in. land ! (from ! (stop !)) (store ! 40 refl (tt, record { fits = is-length-in .1 })) $
         assigns ! (addr ! (from ! (stop !))) (from ! (stop !)) (init ! 14 refl (tt, tt)) $
         assigns ! (agg ! (and-then ! (load ! (from ! (stop !)) (look ! 14 refl)) (and-then ! (big-lit ! (lit< tt)) (no-more !)))) (from ! (stop !)) (init ! 12 refl (tt, (tt, (record { fits = lit< tt }, tt)))) $
         assigns ! (addr ! (from ! (fld ! refl (hop ! (look-in ! 48 (sub ! 0 refl (whole !))) (stop !))))) (from ! (stop !)) (init ! 10 refl (tt, tt)) $
         assigns ! (agg ! (and-then ! (load ! (from ! (stop !)) (look ! 10 refl)) (and-then ! (load ! (from ! (fld ! refl (stop !))) (look-in ! 48 (sub ! 1 refl (whole !)))) (no-more !)))) (from ! (stop !)) (init ! 8 refl (tt, (tt, (record { fits = room-output .0 }, tt)))) $
         -- `answer_call`
-        move ! (6 ∷ 7 ∷ []) $ lend-slice ! tt u8 (named 3) (named 4) (a .1 .1 .1 .1 .1 .0 .ptr .0) (a .1 .1 .1 .1 .1 .0 .ptr .1) output (sliceVal (a .1 .1 .1 .1 .1 .0 .ptr) (length output)) (λ ν₀-6 δ₀-6.
-        lend-array-at ! 44 tt (uint-row w8) tt 1536 (named 3) (replicate 1536 0) (is-repeat (uint-row w8) 1536 0 (refl, lit< tt)) (lit< tt, lit< tt) l₉ 0 refl (λ ν₀-5 δ₀-5 len₀-5.
-        show-array-at ! 50 tt (uint-row w8) tt 1600 (named 2) (ws8 .1 .1 .1 .0) back₈-3 (lit< tt, lit< tt) l₇ 0 refl (λ ν₀-3 δ₀-3 len₀-3.
-        move ! (12 ∷ 13 ∷ []) $ lend-ref ! tt u64 (named 1) (named 1) (a .1 .0 .ptr .0) (a .1 .0 .ptr .1) now-clock (λ ν₀-1 δ₀-1.
-        move ! (14 ∷ 15 ∷ []) $ lend-slice ! tt Slot-t.the-row (named 0) (named 0) (a .0 .ptr .0) (a .0 .ptr .1) slots (sliceVal (a .0 .ptr) (length slots)) (λ ν₀-0 δ₀-0.
-        nothing ! $ move ! (14 ∷ 0 ∷ []) $ join ! $ move ! (12 ∷ 0 ∷ []) $ join ! $ move ! (10 ∷ 0 ∷ []) $ join ! $ move ! (6 ∷ 0 ∷ []) $ join ! $ move ! (2 ∷ 0 ∷ []) $ join ! $ nothing ! $ move ! (10 ∷ 0 ∷ []) $ fjoin ! $ move ! (9 ∷ 0 ∷ []) $ fjoin ! $ owned ! u64 (Is u64) ((uint-row w64) .makes 𝓤 H A W) r10 _ (refl, is10 .1) $ fjoin ! $ move ! (8 ∷ 0 ∷ []) $ fjoin ! $ owned ! Call-t.the-row (Is Call-t.the-row) ((call-row) .makes 𝓤 H A W) r20 _ is20 $ fjoin ! $ move ! (5 ∷ 0 ∷ []) $ fjoin ! $ move ! (2 ∷ 0 ∷ []) $ fjoin ! $ move ! (1 ∷ 0 ∷ []) $
-        calls-any ! fm answer-call.ended (answer-call.clauses 𝓤 H A mem run) (ν₀-0 ∷ [], (ν₀-1 ∷ [], (ν₀-3 ∷ [], (ν₀-5 ∷ [], (ν₀-6 ∷ [], tt))))) (fullShare, (fullShare, (fullShare, (fullShare, (fullShare, tt))))) tt (uint-row w64) (ref (a .0 .ptr .0) (a .0 .ptr .1) δ₀-0 slots, (ref (a .1 .0 .ptr .0) (a .1 .0 .ptr .1) δ₀-1 now-clock, (r20, (ref l₇ 0 δ₀-3 (ws8 .1 .1 .1 .0), (r10, (ref l₉ 0 δ₀-5 (replicate 1536 0), (ref (a .1 .1 .1 .1 .1 .0 .ptr .0) (a .1 .1 .1 .1 .1 .0 .ptr .1) δ₀-6 output, tt))))))) (sliceVal (a .0 .ptr) (length slots) ∷ [], (vptr (a .1 .0 .ptr .0) (a .1 .0 .ptr .1) ∷ [], (call-row .val (r20) ∷ [], (sliceVal (l₇, 0) 1600 ∷ [], (vint w64 r10 ∷ [], (sliceVal (l₉, 0) 1536 ∷ [], (sliceVal (a .1 .1 .1 .1 .1 .0 .ptr) (length output) ∷ [], tt))))))) tt (λ r ws. _) known-answer-call (shown 𝓤 H A ((length-fits (lineOf (lineIn start end input)) e8 e10, omega (arith, l8-3, length-replicate {A = ℕ} 1600 0)), (omega (arith, length-replicate {A = ℕ} 1536 0), ltb-false (length output) 4096 long))) (λ r ws. id⊢ 𝓤 _)
-        (and-then ! (load ! (from ! (stop !)) (look ! 25 refl)) (and-then ! (load ! (from ! (stop !)) (look ! 23 refl)) (and-then ! (load ! (from ! (stop !)) (look ! 21 refl)) (and-then ! (load ! (from ! (stop !)) (look ! 17 refl)) (and-then ! (load ! (from ! (stop !)) (look ! 41 refl)) (and-then ! (load ! (from ! (stop !)) (look ! 13 refl)) (and-then ! (load ! (from ! (stop !)) (look ! 9 refl)) (no-more !)))))))) (λ r0 ws0 is0 e0.
-        split ! $ move ! (1 ∷ []) $ split ! $ move ! (1 ∷ []) $ split ! $ move ! (1 ∷ []) $ split ! $ move ! (1 ∷ []) $ split ! $ move ! (1 ∷ []) $ drop ! $ move ! (5 ∷ []) $ fsplit ! $ fsplit ! $ move ! (1 ∷ []) $ feqL ! (λ l0-0. move ! (0 ∷ 6 ∷ 7 ∷ 8 ∷ []) $ back-slice ! tt Slot-t.the-row (named 0) (a .0 .ptr .0) (a .0 .ptr .1) slots (ws0 .0) (sliceVal (a .0 .ptr) (length slots)) l0-0 refl room-slots $ move ! (2 ∷ []) $ fsplit ! $ move ! (0 ∷ 7 ∷ 8 ∷ 9 ∷ []) $ back-ref ! tt u64 (named 1) (a .1 .0 .ptr .0) (a .1 .0 .ptr .1) now-clock (ws0 .1 .0) $ move ! (2 ∷ []) $ fsplit ! $ drop ! $ fsplit ! $ drop ! $ move ! (7 ∷ []) $
-        hide-array-at ! 49 tt (uint-row w8) tt 1600 (ws8 .1 .1 .1 .0) l₇ 0 refl len₀-3 (λ back₀-3.
-        fsplit ! $ drop ! $ fsplit ! $ fsplit ! $ move ! (1 ∷ []) $ feqL ! (λ l0-5. move ! (0 ∷ 7 ∷ []) $
-        back-array-at ! 44 tt (uint-row w8) tt 1536 (ws0 .1 .1 .1 .1 .1 .0) l₉ 0 refl (λ back₀-5.
-        fsplit ! $ fsplit ! $ move ! (1 ∷ []) $ feqL ! (λ l0-6. move ! (0 ∷ 6 ∷ 7 ∷ 8 ∷ []) $ back-slice ! tt u8 (named 3) (a .1 .1 .1 .1 .1 .0 .ptr .0) (a .1 .1 .1 .1 .1 .0 .ptr .1) output (ws0 .1 .1 .1 .1 .1 .1 .0) (sliceVal (a .1 .1 .1 .1 .1 .0 .ptr) (length output)) l0-6 refl room-output $ move ! (2 ∷ []) $ drop ! $
-        land ! (from ! (stop !)) (init ! 60 refl (tt, record { fits = is0 .1 })) $
+        move ! (6 ∷ 7 ∷ []) $ lend-slice ! tt u8 (named 3) (named 4) (a .1 .1 .1 .1 .1 .0 .ptr .0) (a .1 .1 .1 .1 .1 .0 .ptr .1) output (sliceVal (a .1 .1 .1 .1 .1 .0 .ptr) (length output)) (λ ν-answer-call-output δ-answer-call-output.
+        lend-array-at ! 44 tt (uint-row w8) tt 1536 (named 3) (replicate 1536 0) (is-repeat (uint-row w8) 1536 0 (refl, lit< tt)) (lit< tt, lit< tt) l₉ 0 refl (λ ν-answer-call-reply δ-answer-call-reply len-answer-call-reply.
+        show-array-at ! 50 tt (uint-row w8) tt 1600 (named 2) (ws-read-in .1 .1 .1 .0) back-read-in-buffer (lit< tt, lit< tt) l₇ 0 refl (λ ν-answer-call-buffer δ-answer-call-buffer len-answer-call-buffer.
+        move ! (12 ∷ 13 ∷ []) $ lend-ref ! tt u64 (named 1) (named 1) (a .1 .0 .ptr .0) (a .1 .0 .ptr .1) now-clock (λ ν-answer-call-clock δ-answer-call-clock.
+        move ! (14 ∷ 15 ∷ []) $ lend-slice ! tt Slot-t.the-row (named 0) (named 0) (a .0 .ptr .0) (a .0 .ptr .1) slots (sliceVal (a .0 .ptr) (length slots)) (λ ν-answer-call-slots δ-answer-call-slots.
+        nothing ! $ move ! (14 ∷ 0 ∷ []) $ join ! $ move ! (12 ∷ 0 ∷ []) $ join ! $ move ! (10 ∷ 0 ∷ []) $ join ! $ move ! (6 ∷ 0 ∷ []) $ join ! $ move ! (2 ∷ 0 ∷ []) $ join ! $ nothing ! $ move ! (10 ∷ 0 ∷ []) $ fjoin ! $ move ! (9 ∷ 0 ∷ []) $ fjoin ! $ owned ! u64 (Is u64) ((uint-row w64) .makes 𝓤 H A W) r-length-in _ (refl, is-length-in .1) $ fjoin ! $ move ! (8 ∷ 0 ∷ []) $ fjoin ! $ owned ! Call-t.the-row (Is Call-t.the-row) (call-row .makes 𝓤 H A W) r-call-in _ is-call-in $ fjoin ! $ move ! (5 ∷ 0 ∷ []) $ fjoin ! $ move ! (2 ∷ 0 ∷ []) $ fjoin ! $ move ! (1 ∷ 0 ∷ []) $
+        calls-any ! fm answer-call.ended (answer-call.clauses 𝓤 H A mem run) (ν-answer-call-slots ∷ [], (ν-answer-call-clock ∷ [], (ν-answer-call-buffer ∷ [], (ν-answer-call-reply ∷ [], (ν-answer-call-output ∷ [], tt))))) (fullShare, (fullShare, (fullShare, (fullShare, (fullShare, tt))))) tt (uint-row w64) (ref (a .0 .ptr .0) (a .0 .ptr .1) δ-answer-call-slots slots, (ref (a .1 .0 .ptr .0) (a .1 .0 .ptr .1) δ-answer-call-clock now-clock, (r-call-in, (ref l₇ 0 δ-answer-call-buffer (ws-read-in .1 .1 .1 .0), (r-length-in, (ref l₉ 0 δ-answer-call-reply (replicate 1536 0), (ref (a .1 .1 .1 .1 .1 .0 .ptr .0) (a .1 .1 .1 .1 .1 .0 .ptr .1) δ-answer-call-output output, tt))))))) (sliceVal (a .0 .ptr) (length slots) ∷ [], (vptr (a .1 .0 .ptr .0) (a .1 .0 .ptr .1) ∷ [], (call-row .val r-call-in ∷ [], (sliceVal (l₇, 0) 1600 ∷ [], (vint w64 r-length-in ∷ [], (sliceVal (l₉, 0) 1536 ∷ [], (sliceVal (a .1 .1 .1 .1 .1 .0 .ptr) (length output) ∷ [], tt))))))) tt (λ r ws. _) known-answer-call (shown 𝓤 H A ((length-fits (lineOf (lineIn start end input)) e-read-in e-length-in, omega (arith, l-read-in-buffer, length-replicate {A = ℕ} 1600 0)), (omega (arith, length-replicate {A = ℕ} 1536 0), ltb-false (length output) 4096 long))) (λ r ws. id⊢ 𝓤 _)
+        (and-then ! (load ! (from ! (stop !)) (look ! 25 refl)) (and-then ! (load ! (from ! (stop !)) (look ! 23 refl)) (and-then ! (load ! (from ! (stop !)) (look ! 21 refl)) (and-then ! (load ! (from ! (stop !)) (look ! 17 refl)) (and-then ! (load ! (from ! (stop !)) (look ! 41 refl)) (and-then ! (load ! (from ! (stop !)) (look ! 13 refl)) (and-then ! (load ! (from ! (stop !)) (look ! 9 refl)) (no-more !)))))))) (λ r-answer-call ws-answer-call is-answer-call e-answer-call.
+        split ! $ move ! (1 ∷ []) $ split ! $ move ! (1 ∷ []) $ split ! $ move ! (1 ∷ []) $ split ! $ move ! (1 ∷ []) $ split ! $ move ! (1 ∷ []) $ drop ! $ move ! (5 ∷ []) $ fsplit ! $ fsplit ! $ move ! (1 ∷ []) $ feqL ! (λ l-answer-call-slots. move ! (0 ∷ 6 ∷ 7 ∷ 8 ∷ []) $ back-slice ! tt Slot-t.the-row (named 0) (a .0 .ptr .0) (a .0 .ptr .1) slots (ws-answer-call .0) (sliceVal (a .0 .ptr) (length slots)) l-answer-call-slots refl room-slots $ move ! (2 ∷ []) $ fsplit ! $ move ! (0 ∷ 7 ∷ 8 ∷ 9 ∷ []) $ back-ref ! tt u64 (named 1) (a .1 .0 .ptr .0) (a .1 .0 .ptr .1) now-clock (ws-answer-call .1 .0) $ move ! (2 ∷ []) $ fsplit ! $ drop ! $ fsplit ! $ drop ! $ move ! (7 ∷ []) $
+        hide-array-at ! 49 tt (uint-row w8) tt 1600 (ws-read-in .1 .1 .1 .0) l₇ 0 refl len-answer-call-buffer (λ back-answer-call-buffer.
+        fsplit ! $ drop ! $ fsplit ! $ fsplit ! $ move ! (1 ∷ []) $ feqL ! (λ l-answer-call-reply. move ! (0 ∷ 7 ∷ []) $
+        back-array-at ! 44 tt (uint-row w8) tt 1536 (ws-answer-call .1 .1 .1 .1 .1 .0) l₉ 0 refl (λ back-answer-call-reply.
+        fsplit ! $ fsplit ! $ move ! (1 ∷ []) $ feqL ! (λ l-answer-call-output. move ! (0 ∷ 6 ∷ 7 ∷ 8 ∷ []) $ back-slice ! tt u8 (named 3) (a .1 .1 .1 .1 .1 .0 .ptr .0) (a .1 .1 .1 .1 .1 .0 .ptr .1) output (ws-answer-call .1 .1 .1 .1 .1 .1 .0) (sliceVal (a .1 .1 .1 .1 .1 .0 .ptr) (length output)) l-answer-call-output refl room-output $ move ! (2 ∷ []) $ drop ! $
+        land ! (from ! (stop !)) (init ! 60 refl (tt, record { fits = is-answer-call .1 })) $
         returns ! (look ! 60 refl) $ out ! 60 refl refl $ out ! 58 refl refl $ out ! 56 refl refl $ out ! 54 refl refl $ out ! 52 refl refl $ out ! 50 refl refl $ out ! 48 refl refl $ out ! 46 refl refl $ out ! 44 refl refl $ out ! 42 refl refl $ out ! 40 refl refl $ out ! 38 refl refl $ out ! 36 refl refl $ out ! 34 refl refl $ out ! 32 refl refl $ out-room ! 30 refl refl $ out-room ! 28 refl refl $ out ! 26 refl refl $ out ! 24 refl refl $ out ! 22 refl refl $ out ! 20 refl refl $ out ! 18 refl refl $ out ! 16 refl refl $ out ! 14 refl refl $ out ! 12 refl refl $ out ! 10 refl refl $ out ! 8 refl refl $ free0 ! $
-        keep ! (4 ∷ 5 ∷ 2 ∷ 3 ∷ 6 ∷ 7 ∷ 0 ∷ 1 ∷ []) $ by ! (exits (r0) ((ws0 .0)) ((ws0 .1 .0)) ((ws0 .1 .1 .1 .1 .1 .1 .0)) (runs-asks (lineOf (lineIn start end input)) long e8 e14 (fails-false _ failed) e20 e10 e0) l0-0 l0-6 (refl, is0 .1)))))))))))))))))))))))))))))))))))))))))))))))))
+        keep ! (4 ∷ 5 ∷ 2 ∷ 3 ∷ 6 ∷ 7 ∷ 0 ∷ 1 ∷ []) $ by ! (exits r-answer-call (ws-answer-call .0) (ws-answer-call .1 .0) (ws-answer-call .1 .1 .1 .1 .1 .1 .0) (runs-asks (lineOf (lineIn start end input)) long e-read-in e-is-bad (fails-false _ failed) e-call-in e-length-in e-answer-call) l-answer-call-slots l-answer-call-output (refl, is-answer-call .1)))))))))))))))))))))))))))))))))))))))))))))))))
 
 pub run-line-spec : {M : Type 1} → stated.statement M
 unfolding code.routine

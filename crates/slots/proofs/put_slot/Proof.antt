@@ -1,11 +1,11 @@
--- `slots::put_slot` meets its contract: a walk of its MIR, by hand. The slot lies k sizes of a slot past the slice's pointer.
-use Rattle.slots.proofs.Pre.{ℕ, _<_, _^_, ftrue, fat, flft, SProp, ent, Lfts, Shares, Fun, givenOf, tables, u64, yes, place-is, Is, uint-vals, uint-tells, Nothing, owns, plain, sliceVal, MutSlice, Room, slice-vals, mut-slice-tells, owned, nothing, onEntry, Args, Vals, says, needs, Stays, stay-slice, stay-none, walkOf, goes-slice, goes-none, ends-at, walked, Atoms, fullShare, URA, length, set, length-set, [], _∷_, List, refl, sym, _≡_, named, w64, tyPtr, Val, vunit, vint, vptr, Memory, Routine, Heap, Calls, Loops, WpFn, Given, ‵, _⊛_, ⋆, _$_, _∵_, !, qed, by, move, drop, split, join, rewrite, fsplit, fjoin, suffices, frame, done, keep, Item, whole, sub, look-in, look, store-raw, init, stop, hop, fld, from, load, lit, unit-lit, of-opd, bin, assigns, returns, enter, alloc1, alloc0, params1, pass1, pass0, free0}
-use Rattle.slots.proofs.Walk.{uint-row, unit-row, ref, out, finish}
-use Rattle.slots.proofs.Element.{open-element, put-element}
+-- `slots::put_slot` meets its contract: a walk of its MIR, made by tools/rewalk. The slot lies k sizes of a slot past the slice's pointer.
+use Rattle.walk.proofs.Pre.{ℕ, _<_, _^_, _-_, ftrue, fat, flft, SProp, ent, Lfts, Shares, Fun, givenOf, tables, u64, yes, place-is, Is, uint-vals, uint-tells, Nothing, owns, plain, sliceVal, MutSlice, Room, slice-vals, mut-slice-tells, owned, nothing, onEntry, Args, Vals, says, needs, Stays, stay-slice, stay-none, walkOf, goes-slice, goes-none, ends-at, walked, Atoms, fullShare, URA, length, set, length-set, [], _∷_, List, refl, sym, _≡_, named, w64, tyPtr, Val, vunit, vint, vptr, Memory, Routine, Heap, Calls, Loops, WpFn, FmC, Given, ‵, _⊛_, ⋆, _$_, _∵_, !, qed, by, move, drop, split, join, rewrite, fsplit, fjoin, suffices, frame, done, keep, Item, whole, sub, look-in, look, store-raw, init, stop, hop, fld, from, load, lit, unit-lit, of-opd, bin, assigns, returns, enter, alloc1, alloc0, params1, pass1, pass0, free0}
+use Rattle.walk.proofs.Walk.{uint-row, unit-row, ref, tokens, out, framed-calls, finish}
+use Rattle.walk.proofs.Element.{open-element, put-element}
 use Rattle.slots.proofs.Rows.{slot-size, slot-fits, slot-row, slot-typed}
 use Rattle.table.specs.declared.Slot.{Slot}
-use Rattle.table.specs.Table.{freshSlot}
 use Rattle.table.proofs.Slot as Slot-t
+use Rattle.table.specs.Table.{freshSlot}
 use Rattle.slots.proofs.put_slot.Key.{name as #slots·put-slot}
 use Rattle.slots.proofs.put_slot as put-slot
 use Rattle.slots.proofs.put_slot.Statement as stated
@@ -48,7 +48,7 @@ module _ {M : Type 1} (𝓤 : URA M) (H : Heap 𝓤) (A : Atoms 𝓤) (W : Given
       nothing ! $ move ! (2 ∷ 0 ∷ []) $ join ! $ frame ! $
       nothing ! $ owned ! Slot-t.the-row (Is Slot-t.the-row) (slot-row .makes 𝓤 H A W) slot _ is-slot $ fjoin ! $ owned ! u64 (Is u64) ((uint-row w64) .makes 𝓤 H A W) k _ (refl, g-k) $ fjoin ! $ move ! (1 ∷ 0 ∷ []) $ fjoin ! $ frame ! $ owned ! Nothing (Is Nothing) (unit-row .makes 𝓤 H A W) r _ is $ done !
 
-  module _ (C : Calls 𝓤 H) (Λ : Loops 𝓤 H) where
+  module _ (C : Calls 𝓤 H) (Λ : Loops 𝓤 H) (fm : FmC 𝓤 H (W .laws) C) where
     walk : Room Slot-t.the-row (length slots) → k < length slots → ent 𝓤 (onEntry 𝓤 H A put-slot.signature κs qs a at) (WpFn 𝓤 H C Λ code.function (sliceVal (a .0 .ptr) (length slots) ∷ vint w64 k ∷ slot-row .val slot ∷ []) Post)
     walk room-slots asked =
         qed W ((t0 ⊛ ‵ ftrue) ∷ ‵ (owns (MutSlice (named 0) (κs .0) Slot-t.the-row ∷ u64 ∷ Slot-t.the-row ∷ []) a at) ∷ []) ∵
@@ -80,5 +80,6 @@ put-slot-spec 𝓤 H 𝓜 𝓖 𝓡 =
     finish 𝓤 H 𝓜 𝓖 𝓡 code.env put-slot.ended stayed (goes-slice 𝓤 H A W 1 0 tt (plain (λ _. Slot-t.the-row)), (goes-none 𝓤 H A W 1 (λ _. u64) yes (λ κs x f. refl), (goes-none 𝓤 H A W 1 (λ _. Slot-t.the-row) yes (λ κs x f. refl), tt)))
     (put-slot.clauses 𝓤 H A mem run) #slots·put-slot code.function (code.unfolded 𝓤 H 𝓜 𝓡)
     (walked 𝓤 H A put-slot.ended stayed (put-slot.clauses 𝓤 H A mem run) (WpFn 𝓤 H C Λ code.function) (λ κs. (slice-vals, (uint-vals w64, ((λ x. slot-row .val x ∷ []), tt)))) (λ κs. (mut-slice-tells (named 0) (κs .0) Slot-t.the-row, (uint-tells w64, (slot-row .tells, tt))))
-    (λ κs qs bounds a g are. needs 𝓤 (a .1 .0 < length (a .0 .now)) _
-    (walk 𝓤 H A W mem run κs qs a (are .1 .0 .1) (are .1 .1 .0) C Λ (are .0 .0 .1))))
+    (λ κs qs bounds a g are. needs 𝓤 ((a .1 .0) < length (a .0 .now)) _
+    (walk 𝓤 H A W mem run κs qs a (are .1 .0 .1) (are .1 .1 .0) C Λ (framed-calls 𝓤 H 𝓜 𝓖 𝓡 code.env)
+    (are .0 .0 .1))))

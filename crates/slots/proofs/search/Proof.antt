@@ -1,10 +1,12 @@
--- `slots::search` meets its contract: a walk of its MIR, by hand. The loop keeps that no slot below i has the key.
-use Rattle.slots.proofs.Pre.{ℕ, _<_, _^_, _+_, _-_, ftrue, fat, flft, froom, fdies, SProp, ent, emp, via, fst∗, id⊢, Lfts, Shares, Fun, givenOf, tables, tablesOf, u64, yes, Is, pointee, uint-vals, uint-tells, owns, plain, sliceVal, Room, slice-vals, ShrSlice, shr-slice-tells, sliceTy, owned, nothing, onEntry, Args, Vals, Triple, cited, says, Stays, stay-none, walkOf, goes-none, ends-at, walked, stay-none-slice, goes-none-slice, Atoms, fullShare, URA, lit<, ltb→lt, nltb→le, length, [], _∷_, List, refl, _≡_, _∙_, ap, named, w64, imm, tyInt, tyBool, tyRef, Val, vint, Memory, Routine, Heap, WpFn, Tables, FmC, Given, ‵, _⊛_, ⋆, _$_, _∵_, !, qed, by, move, drop, split, join, fsplit, fjoin, suffices, frame, done, keep, Item, whole, sub, look-in, agg, look, init, forget, stop, fld, from, load, lit, of-opd, bin, assigns, returns, enter, alloc1, alloc0, params1, pass1, pass0, free0, store, and-then, no-more, assigns-last, land, returns-within}
-use Rattle.slots.proofs.Walk.{uint-row, bool-row, ref, shown, asks-none, Of, calls-value, out, out-room, below-fits, next-fits, falls, whiles, tests, guards, turn-returns, holds-true, fails-false, framed-calls, finish}
-use Rattle.slots.proofs.Lends.{calls-shared}
+-- `slots::search` meets its contract: a walk of its MIR, made by tools/rewalk. The loop keeps that no slot below i has the key.
+use Rattle.walk.proofs.Pre.{ℕ, _<_, _^_, _+_, _-_, ftrue, fat, flft, froom, fdies, SProp, ent, emp, via, fst∗, id⊢, Lfts, Shares, Fun, givenOf, tables, tablesOf, u64, yes, Is, pointee, uint-vals, uint-tells, owns, plain, sliceVal, Room, slice-vals, ShrSlice, shr-slice-tells, sliceTy, owned, nothing, onEntry, Args, Vals, Triple, cited, says, Stays, stay-none, walkOf, goes-none, ends-at, walked, stay-none-slice, goes-none-slice, Atoms, fullShare, URA, lit<, ltb→lt, nltb→le, length, [], _∷_, List, refl, _≡_, _∙_, ap, named, w64, imm, tyInt, tyBool, tyRef, Val, vint, Memory, Routine, Heap, WpFn, Tables, FmC, Given, ‵, _⊛_, ⋆, _$_, _∵_, !, qed, by, move, drop, split, join, fsplit, fjoin, suffices, frame, done, keep, Item, whole, sub, look-in, agg, look, init, forget, stop, fld, from, load, lit, of-opd, bin, assigns, returns, enter, alloc1, alloc0, params1, pass1, pass0, free0, store, and-then, no-more, assigns-last, land}
+use Rattle.walk.proofs.Walk.{uint-row, bool-row, ref, shown, asks-none, Of, tokens, calls-value, out, out-room, next-fits, falls, whiles, tests, guards, holds-true, fails-false, framed-calls, finish}
+use Rattle.walk.proofs.Lends.{calls-shared}
 use Rattle.slots.proofs.Rows.{allocation-row, allocation-typed, key-row, key-typed, found-row, found-typed, is-at, is-nothing}
+use Rattle.table.specs.declared.Allocation.{Allocation}
 use Rattle.table.proofs.Allocation.Laws as Allocation-l
 use Rattle.table.specs.declared.Found.{Found}
+use Rattle.table.specs.declared.Found.the-variants.{At, Nothing}
 use Rattle.table.proofs.Found as Found-t
 use Rattle.table.proofs.Found.Laws as Found-l
 use Rattle.slots.specs.declared.keys.Key.{Key}
@@ -14,16 +16,15 @@ use Rattle.table.specs.declared.Slot.{Slot}
 use Rattle.table.proofs.Slot as Slot-t
 use Rattle.slots.proofs.allocation_at as allocation-at
 use Rattle.slots.proofs.allocation_at.Symbol as allocation-at-def
+use Rattle.slots.proofs.allocation_at.Symbol.{name as #slots·allocation-at}
 use Rattle.slots.proofs.allocation_at.Met as allocation-at-thm
 use Rattle.slots.proofs.keys.matches as matches
 use Rattle.slots.proofs.keys.matches.Symbol as matches-def
-use Rattle.slots.proofs.keys.matches.Met as matches-thm
-use Rattle.slots.specs.Slots.{slotAt, inSlot, keyed, searched}
-use Rattle.table.specs.Table.{freshSlot}
-use Rattle.table.specs.declared.Found.the-variants.{At, Nothing}
-use Rattle.table.proofs.Laws.{Passed, from-none, one-more, find-at, find-past}
-use Rattle.slots.proofs.allocation_at.Symbol.{name as #slots·allocation-at}
 use Rattle.slots.proofs.keys.matches.Symbol.{name as #slots·matches}
+use Rattle.slots.proofs.keys.matches.Met as matches-thm
+use Rattle.slots.specs.Slots.{inSlot, keyed, searched}
+use Rattle.table.specs.Table.{freshSlot}
+use Rattle.table.proofs.Laws.{Passed, from-none, one-more, find-at, find-past}
 use Rattle.slots.proofs.search.Key.{name as #slots·search}
 use Rattle.slots.proofs.search as search
 use Rattle.slots.proofs.search.Statement as stated
@@ -68,10 +69,10 @@ module _ {M : Type 1} (𝓤 : URA M) (H : Heap 𝓤) (A : Atoms 𝓤) (W : Given
 
   -- ---- the loop: its state, with what is known of it and, last, the invariant; its measure; and the context in that state
   abbrev State : Type 0
-  State = (i : ℕ) × Passed (inSlot (keyed time key)) slots freshSlot i
+  State = (x-i : ℕ) × ((x-i < 2 ^ 64) × ((Passed (inSlot (keyed time key)) slots freshSlot x-i)))
 
   abbrev μ : State → ℕ
-  μ x = length slots - x .0
+  μ x = length slots - (x .0)
 
   abbrev I : (l₀ l₁ l₂ l₃ l₄ l₅ l₆ l₇ l₈ : ℕ) → State → List (Item 𝓤)
   I l₀ l₁ l₂ l₃ l₄ l₅ l₆ l₇ l₈ x = Own-slots slots ∷ t0 ∷ ‵ (froom tyBool l₈ 0) ∷ ‵ (fdies tyBool l₈) ∷ ‵ (froom tyBool l₇ 0) ∷ ‵ (fdies tyBool l₇) ∷ ‵ (froom (tyInt w64) l₆ 0) ∷ ‵ (fdies (tyInt w64) l₆) ∷ ‵ (froom Allocation-l.mir l₅ 0) ∷ ‵ (fdies Allocation-l.mir l₅) ∷ ‵ (fat fullShare (tyInt w64) l₄ 0 (vint w64 (x .0))) ∷ ‵ (fdies (tyInt w64) l₄) ∷ ‵ (fat fullShare Key-l.mir l₃ 0 (key-row .val key)) ∷ ‵ (fdies Key-l.mir l₃) ∷ ‵ (fat fullShare (tyInt w64) l₂ 0 (vint w64 time)) ∷ ‵ (fdies (tyInt w64) l₂) ∷ ‵ (fat fullShare (sliceTy (tyRef (named 0) imm (pointee (Slot-t.the-row .written)))) l₁ 0 (sliceVal (a .0 .ptr) (length slots))) ∷ ‵ (fdies (sliceTy (tyRef (named 0) imm (pointee (Slot-t.the-row .written)))) l₁) ∷ ‵ (froom Found-l.mir l₀ 0) ∷ ‵ (fdies Found-l.mir l₀) ∷ []
@@ -87,34 +88,34 @@ module _ {M : Type 1} (𝓤 : URA M) (H : Heap 𝓤) (A : Atoms 𝓤) (W : Given
         -- the references and their tokens first: from here local k stands at 18 - 2 k
         move ! (18 ∷ 19 ∷ []) $
         assigns ! (of-opd ! (lit ! tt)) (from ! (stop !)) (init ! 10 refl (tt, record { fits = lit< tt })) $
-        whiles ! 𝓣 μ (I l₀ l₁ l₂ l₃ l₄ l₅ l₆ l₇ l₈) (λ x leave again.
+        whiles ! 𝓣 μ (I l₀ l₁ l₂ l₃ l₄ l₅ l₆ l₇ l₈)
+        (λ x leave again back.
         assigns ! (of-opd ! (load ! (from ! (fld ! refl (stop !))) (look-in ! 16 (sub ! 1 refl (whole !))))) (from ! (stop !)) (init ! 6 refl (tt, record { fits = room-slots .0 })) $
         assigns ! (bin ! (load ! (from ! (stop !)) (look ! 10 refl)) (load ! (from ! (stop !)) (look ! 6 refl)) tt) (from ! (stop !)) (init ! 4 refl (tt, tt)) $
         tests ! (load ! (from ! (stop !)) (look ! 4 refl))
         (λ less.
-        let within : x .0 < length slots = ltb→lt (x .0) (length slots) less in
-        let fits : x .0 < 2 ^ 64 = below-fits (length slots) (x .0) (room-slots .0) within in
-        let fits′ : x .0 + 1 < 2 ^ 64 = next-fits (length slots) (x .0) (room-slots .0) within in
+        let within : (x .0) < length slots = ltb→lt (x .0) (length slots) less in
+        let fits′ : (x .0) + 1 < 2 ^ 64 = next-fits (length slots) (x .0) (room-slots .0) within in
         -- `allocation_at`
-        calls-shared ! fm Slot-t.the-row allocation-row (allocation-at.clauses 𝓤 H A mem run) (λ r. r ≡ slotAt slots (x .0) .allocation) (named 0) (a .0 .ptr .0) (a .0 .ptr .1) slots (sliceVal (a .0 .ptr) (length slots)) ((x .0), tt) (uint-row w64, tt) tt known-allocation-at ((refl, fits), tt) (shown 𝓤 H A within) (λ r ws. id⊢ 𝓤 _)
-        (and-then ! (load ! (from ! (stop !)) (look ! 16 refl)) (and-then ! (load ! (from ! (stop !)) (look ! 10 refl)) (no-more !))) (λ r5 is5 e5. land ! (from ! (stop !)) (init ! 8 refl (allocation-typed 𝓤 H A W r5 is5)) $
+        calls-shared ! fm Slot-t.the-row allocation-row (allocation-at.clauses 𝓤 H A mem run) (λ r. _) (named 0) (a .0 .ptr .0) (a .0 .ptr .1) slots (sliceVal (a .0 .ptr) (length slots)) ((x .0), tt) (uint-row w64, tt) tt known-allocation-at ((refl, (x .1 .0)), tt) (shown 𝓤 H A within) (λ r ws. id⊢ 𝓤 _)
+        (and-then ! (load ! (from ! (stop !)) (look ! 16 refl)) (and-then ! (load ! (from ! (stop !)) (look ! 10 refl)) (no-more !))) (λ r-allocation-at is-allocation-at e-allocation-at. land ! (from ! (stop !)) (init ! 8 refl (allocation-typed 𝓤 H A W r-allocation-at is-allocation-at)) $
         -- `matches`
-        calls-value ! fm bool-row (matches.clauses 𝓤 H A mem run) (λ r. r ≡ keyed time key r5) (uint-row w64, (key-row, (allocation-row, tt))) (time, (key, (r5, tt))) tt known-matches ((refl, g-time), (is-key, (is5, tt))) (asks-none 𝓤 H A) (λ r ws. id⊢ 𝓤 _)
-        (and-then ! (load ! (from ! (stop !)) (look ! 15 refl)) (and-then ! (load ! (from ! (stop !)) (look ! 13 refl)) (and-then ! (load ! (from ! (stop !)) (look ! 9 refl)) (no-more !)))) (λ r8 is8 e8. land ! (from ! (stop !)) (init ! 2 refl (tt, tt)) $
+        calls-value ! fm bool-row (matches.clauses 𝓤 H A mem run) (λ r. _) (uint-row w64, (key-row, (allocation-row, tt))) (time, (key, (r-allocation-at, tt))) tt known-matches ((refl, g-time), (is-key, (is-allocation-at, tt))) (asks-none 𝓤 H A) (λ r ws. id⊢ 𝓤 _)
+        (and-then ! (load ! (from ! (stop !)) (look ! 15 refl)) (and-then ! (load ! (from ! (stop !)) (look ! 13 refl)) (and-then ! (load ! (from ! (stop !)) (look ! 9 refl)) (no-more !)))) (λ r-matches is-matches e-matches. land ! (from ! (stop !)) (init ! 2 refl (tt, tt)) $
         guards ! (load ! (from ! (stop !)) (look ! 2 refl))
         (λ held.
-        assigns ! (agg ! (and-then ! (lit ! tt) (and-then ! (load ! (from ! (stop !)) (look ! 10 refl)) (no-more !)))) (from ! (stop !)) (init ! 18 refl (found-typed 𝓤 H A W (At (x .0)) (is-at (x .0) fits))) $
-        returns-within ! Post (turn-returns 𝓤 H _ _) (look ! 18 refl) $ out ! 18 refl refl $ out ! 16 refl refl $ out ! 14 refl refl $ out ! 12 refl refl $ out ! 10 refl refl $ out ! 8 refl refl $ out ! 6 refl refl $ out ! 4 refl refl $ out ! 2 refl refl $ free0 ! $
-        keep ! (0 ∷ 1 ∷ []) $ by ! (exits (At (x .0)) (find-at (x .1) within (e8 ∙ ap (keyed time key) e5) (holds-true r8 held)) (is-at (x .0) fits)))
+        assigns ! (agg ! (and-then ! (lit ! tt) (and-then ! (load ! (from ! (stop !)) (look ! 10 refl)) (no-more !)))) (from ! (stop !)) (init ! 18 refl (found-typed 𝓤 H A W (At (x .0)) (is-at (x .0) (x .1 .0)))) $
+        back _ _ (returns ! (look ! 18 refl) $ out ! 18 refl refl $ out ! 16 refl refl $ out ! 14 refl refl $ out ! 12 refl refl $ out ! 10 refl refl $ out ! 8 refl refl $ out ! 6 refl refl $ out ! 4 refl refl $ out ! 2 refl refl $ free0 ! $
+        keep ! (0 ∷ 1 ∷ []) $ by ! (exits (At (x .0)) (find-at (x .1 .1) within (e-matches ∙ ap (keyed time key) e-allocation-at) (holds-true r-matches held)) (is-at (x .0) (x .1 .0)))))
         (λ failed.
         assigns-last ! (bin ! (load ! (from ! (stop !)) (look ! 10 refl)) (lit ! tt) (record { fits = fits′ })) (from ! (stop !)) (store ! 10 refl (tt, record { fits = fits′ })) $
         forget ! 2 refl $ forget ! 4 refl $ forget ! 6 refl $ forget ! 8 refl $
-        again (x .0 + 1, one-more (x .1) (e8 ∙ ap (keyed time key) e5) (fails-false r8 failed)) (falls (length slots) (x .0) within)))))
+        again (((x .0) + 1), (fits′, (one-more (x .1 .1) (e-matches ∙ ap (keyed time key) e-allocation-at) (fails-false r-matches failed)))) (falls (length slots) (x .0) within)))))
         (λ over. leave _ (
         assigns ! (agg ! (and-then ! (lit ! tt) (no-more !))) (from ! (stop !)) (init ! 18 refl (found-typed 𝓤 H A W Nothing is-nothing)) $
         returns ! (look ! 18 refl) $ out ! 18 refl refl $ out ! 16 refl refl $ out ! 14 refl refl $ out ! 12 refl refl $ out ! 10 refl refl $ out-room ! 8 refl refl $ out ! 6 refl refl $ out ! 4 refl refl $ out-room ! 2 refl refl $ free0 ! $
-        keep ! (0 ∷ 1 ∷ []) $ by ! (exits Nothing (find-past (x .1) (nltb→le (x .0) (length slots) over)) is-nothing))))
-        (0, from-none))))))))))
+        keep ! (0 ∷ 1 ∷ []) $ by ! (exits Nothing (find-past (x .1 .1) (nltb→le (x .0) (length slots) over)) is-nothing))))
+        (0, (lit< tt, from-none)))))))))))
 
 pub search-spec : {M : Type 1} → stated.statement M
 unfolding code.routine tablesOf

@@ -1,6 +1,6 @@
--- `slots::slot_count` meets its contract: a walk of its MIR, by hand.
-use Rattle.slots.proofs.Pre.{ℕ, ftrue, flft, SProp, ent, emp, via, fst∗, Lfts, Shares, Fun, givenOf, tables, u64, yes, Is, owns, plain, sliceVal, Room, slice-vals, ShrSlice, shr-slice-tells, owned, nothing, onEntry, Args, Vals, says, Stays, walkOf, ends-at, walked, stay-none-slice, goes-none-slice, Atoms, URA, length, [], _∷_, List, refl, _≡_, named, w64, Val, vint, Memory, Routine, Heap, Calls, Loops, WpFn, Given, ‵, _⊛_, ⋆, _$_, _∵_, !, qed, by, move, split, join, fsplit, fjoin, suffices, frame, done, keep, Item, whole, sub, look-in, look, init, stop, fld, from, load, of-opd, assigns, returns, enter, alloc1, alloc0, params1, pass1, pass0, free0}
-use Rattle.slots.proofs.Walk.{uint-row, ref, out, finish}
+-- `slots::slot_count` meets its contract: a walk of its MIR, made by tools/rewalk.
+use Rattle.walk.proofs.Pre.{ℕ, _-_, ftrue, flft, SProp, ent, emp, via, fst∗, Lfts, Shares, Fun, givenOf, tables, u64, yes, Is, owns, plain, sliceVal, Room, slice-vals, ShrSlice, shr-slice-tells, owned, nothing, onEntry, Args, Vals, says, Stays, walkOf, ends-at, walked, stay-none-slice, goes-none-slice, Atoms, URA, length, [], _∷_, List, refl, _≡_, named, w64, Val, vint, Memory, Routine, Heap, Calls, Loops, WpFn, FmC, Given, ‵, _⊛_, ⋆, _$_, _∵_, !, qed, by, move, split, join, fsplit, fjoin, suffices, frame, done, keep, Item, whole, sub, look-in, look, init, stop, fld, from, load, of-opd, assigns, returns, enter, alloc1, alloc0, params1, pass1, pass0, free0}
+use Rattle.walk.proofs.Walk.{uint-row, ref, tokens, out, framed-calls, finish}
 use Rattle.table.specs.declared.Slot.{Slot}
 use Rattle.table.proofs.Slot as Slot-t
 use Rattle.slots.proofs.slot_count.Key.{name as #slots·slot-count}
@@ -39,7 +39,7 @@ module _ {M : Type 1} (𝓤 : URA M) (H : Heap 𝓤) (A : Atoms 𝓤) (W : Given
       nothing ! $ move ! (2 ∷ 0 ∷ []) $ join ! $ frame ! $
       nothing ! $ move ! (1 ∷ 0 ∷ []) $ fjoin ! $ frame ! $ owned ! u64 (Is u64) ((uint-row w64) .makes 𝓤 H A W) r _ is $ done !
 
-  module _ (C : Calls 𝓤 H) (Λ : Loops 𝓤 H) where
+  module _ (C : Calls 𝓤 H) (Λ : Loops 𝓤 H) (fm : FmC 𝓤 H (W .laws) C) where
     walk : Room Slot-t.the-row (length slots) → ent 𝓤 (onEntry 𝓤 H A slot-count.signature κs qs a at) (WpFn 𝓤 H C Λ code.function (sliceVal (a .0 .ptr) (length slots) ∷ []) Post)
     walk room-slots =
         qed W ((t0 ⊛ ‵ ftrue) ∷ ‵ (owns (ShrSlice (named 0) (κs .0) Slot-t.the-row ∷ []) a at) ∷ []) ∵
@@ -66,4 +66,5 @@ slot-count-spec 𝓤 H 𝓜 𝓖 𝓡 =
     (slot-count.clauses 𝓤 H A mem run) #slots·slot-count code.function (code.unfolded 𝓤 H 𝓜 𝓡)
     (walked 𝓤 H A slot-count.ended stayed (slot-count.clauses 𝓤 H A mem run) (WpFn 𝓤 H C Λ code.function) (λ κs. (slice-vals, tt)) (λ κs. (shr-slice-tells (named 0) (κs .0) Slot-t.the-row, tt))
     (λ κs qs bounds a g are. via 𝓤 _ (fst∗ 𝓤 _ (emp 𝓤))
-    (walk 𝓤 H A W mem run κs qs a C Λ (are .0 .0 .1))))
+    (walk 𝓤 H A W mem run κs qs a C Λ (framed-calls 𝓤 H 𝓜 𝓖 𝓡 code.env)
+    (are .0 .0 .1))))

@@ -1,8 +1,9 @@
--- `slots::survey` meets its contract: a walk of its MIR, by hand. The loop keeps a survey of the first i slots.
-use Rattle.slots.proofs.Pre.{ℕ, _<_, _^_, _+_, _-_, ftrue, fat, flft, froom, fdies, SProp, ent, emp, via, fst∗, id⊢, Lfts, Shares, Fun, givenOf, tables, tablesOf, u64, u8, yes, Is, pointee, uint-vals, uint-tells, owns, plain, sliceVal, Room, slice-vals, ShrSlice, shr-slice-tells, sliceTy, owned, nothing, onEntry, Args, Vals, Triple, cited, says, Stays, stay-none, walkOf, goes-none, ends-at, walked, stay-none-slice, goes-none-slice, Atoms, fullShare, URA, lit<, ltb→lt, nltb→le, length, take, [], _∷_, List, refl, _≡_, named, w64, imm, tyInt, tyBool, tyRef, w8, Val, vint, Memory, Routine, Heap, WpFn, Tables, FmC, Given, ‵, _⊛_, ⋆, _$_, _∵_, !, qed, by, move, drop, split, join, fsplit, fjoin, suffices, frame, done, keep, Item, whole, sub, look-in, look, init, forget, stop, fld, from, load, lit, of-opd, bin, assigns, returns, enter, alloc1, alloc0, params1, pass1, pass0, free0, store, and-then, no-more, assigns-last, land}
-use Rattle.slots.proofs.Walk.{uint-row, ref, shown, asks-none, Of, calls-value, out, out-room, below-fits, next-fits, falls, whiles, tests, framed-calls, finish}
-use Rattle.slots.proofs.Lends.{calls-shared}
+-- `slots::survey` meets its contract: a walk of its MIR, made by tools/rewalk. The loop keeps a survey of the first i slots.
+use Rattle.walk.proofs.Pre.{ℕ, _<_, _^_, _+_, _-_, ftrue, fat, flft, froom, fdies, SProp, ent, emp, via, fst∗, id⊢, Lfts, Shares, Fun, givenOf, tables, tablesOf, u64, u8, yes, Is, pointee, uint-vals, uint-tells, owns, plain, sliceVal, Room, slice-vals, ShrSlice, shr-slice-tells, sliceTy, owned, nothing, onEntry, Args, Vals, Triple, cited, says, Stays, stay-none, walkOf, goes-none, ends-at, walked, stay-none-slice, goes-none-slice, Atoms, fullShare, URA, lit<, ltb→lt, nltb→le, length, take, [], _∷_, List, refl, named, w64, imm, tyInt, tyBool, tyRef, w8, Val, vint, Memory, Routine, Heap, WpFn, Tables, FmC, Given, ‵, _⊛_, ⋆, _$_, _∵_, !, qed, by, move, drop, split, join, fsplit, fjoin, suffices, frame, done, keep, Item, whole, sub, look-in, look, init, forget, stop, fld, from, load, lit, of-opd, bin, assigns, returns, enter, alloc1, alloc0, params1, pass1, pass0, free0, store, and-then, no-more, assigns-last, land}
+use Rattle.walk.proofs.Walk.{uint-row, ref, shown, asks-none, Of, tokens, calls-value, out, out-room, next-fits, falls, whiles, tests, framed-calls, finish}
+use Rattle.walk.proofs.Lends.{calls-shared}
 use Rattle.slots.proofs.Rows.{slots-fit, allocation-row, allocation-typed, fivetuple-row, fivetuple-typed, survey-row, survey-typed}
+use Rattle.table.specs.declared.Allocation.{Allocation}
 use Rattle.table.proofs.Allocation.Laws as Allocation-l
 use Rattle.address.specs.declared.FiveTuple.{FiveTuple}
 use Rattle.address.proofs.FiveTuple as FiveTuple-t
@@ -24,7 +25,7 @@ use Rattle.slots.proofs.surveys.surveyed_with as surveyed-with
 use Rattle.slots.proofs.surveys.surveyed_with.Symbol as surveyed-with-def
 use Rattle.slots.proofs.surveys.surveyed_with.Symbol.{name as #slots·surveyed-with}
 use Rattle.slots.proofs.surveys.surveyed_with.Met as surveyed-with-thm
-use Rattle.slots.specs.Slots.{slotAt, Surveyed, SurveyedNone, SurveyedWith}
+use Rattle.slots.specs.Slots.{Surveyed, SurveyedNone, SurveyedWith}
 use Rattle.slots.proofs.Laws.{held-fits, survey-next, survey-all}
 use Rattle.slots.proofs.survey.Key.{name as #slots·survey}
 use Rattle.slots.proofs.survey as survey
@@ -73,10 +74,10 @@ module _ {M : Type 1} (𝓤 : URA M) (H : Heap 𝓤) (A : Atoms 𝓤) (W : Given
 
   -- ---- the loop: its state, with what is known of it and, last, the invariant; its measure; and the context in that state
   abbrev State : Type 0
-  State = (so-far : Survey) × (i : ℕ) × (Is Survey-t.the-row so-far (survey-row .val so-far ∷ []) × Surveyed (take i slots) time five-tuple user so-far)
+  State = (x-survey : Survey) × (x-i : ℕ) × ((Is Survey-t.the-row x-survey (survey-row .val x-survey ∷ [])) × ((x-i < 2 ^ 64) × ((Surveyed (take x-i slots) time five-tuple user x-survey))))
 
   abbrev μ : State → ℕ
-  μ x = length slots - x .1
+  μ x = length slots - (x .1)
 
   abbrev I : (l₀ l₁ l₂ l₃ l₄ l₅ l₆ l₇ l₈ l₉ : ℕ) → State → List (Item 𝓤)
   I l₀ l₁ l₂ l₃ l₄ l₅ l₆ l₇ l₈ l₉ x = Own-slots slots ∷ t0 ∷ ‵ (froom tyBool l₉ 0) ∷ ‵ (fdies tyBool l₉) ∷ ‵ (froom (tyInt w64) l₈ 0) ∷ ‵ (fdies (tyInt w64) l₈) ∷ ‵ (froom Allocation-l.mir l₇ 0) ∷ ‵ (fdies Allocation-l.mir l₇) ∷ ‵ (fat fullShare (tyInt w64) l₆ 0 (vint w64 (x .1))) ∷ ‵ (fdies (tyInt w64) l₆) ∷ ‵ (fat fullShare Survey-l.mir l₅ 0 (survey-row .val (x .0))) ∷ ‵ (fdies Survey-l.mir l₅) ∷ ‵ (fat fullShare (tyInt w8) l₄ 0 (vint w8 user)) ∷ ‵ (fdies (tyInt w8) l₄) ∷ ‵ (fat fullShare FiveTuple-l.mir l₃ 0 (fivetuple-row .val five-tuple)) ∷ ‵ (fdies FiveTuple-l.mir l₃) ∷ ‵ (fat fullShare (tyInt w64) l₂ 0 (vint w64 time)) ∷ ‵ (fdies (tyInt w64) l₂) ∷ ‵ (fat fullShare (sliceTy (tyRef (named 0) imm (pointee (Slot-t.the-row .written)))) l₁ 0 (sliceVal (a .0 .ptr) (length slots))) ∷ ‵ (fdies (sliceTy (tyRef (named 0) imm (pointee (Slot-t.the-row .written)))) l₁) ∷ ‵ (froom Survey-l.mir l₀ 0) ∷ ‵ (fdies Survey-l.mir l₀) ∷ []
@@ -93,30 +94,30 @@ module _ {M : Type 1} (𝓤 : URA M) (H : Heap 𝓤) (A : Atoms 𝓤) (W : Given
         move ! (20 ∷ 21 ∷ []) $
         -- `first_survey`
         calls-value ! fm survey-row (first-survey.clauses 𝓤 H A mem run) SurveyedNone tt tt tt known-first-survey tt (asks-none 𝓤 H A) (λ r ws. id⊢ 𝓤 _)
-        (no-more !) (λ r5 is5 e5. land ! (from ! (stop !)) (init ! 10 refl (survey-typed 𝓤 H A W r5 is5)) $
+        (no-more !) (λ r-first-survey is-first-survey e-first-survey. land ! (from ! (stop !)) (init ! 10 refl (survey-typed 𝓤 H A W r-first-survey is-first-survey)) $
         assigns ! (of-opd ! (lit ! tt)) (from ! (stop !)) (init ! 8 refl (tt, record { fits = lit< tt })) $
-        whiles ! 𝓣 μ (I l₀ l₁ l₂ l₃ l₄ l₅ l₆ l₇ l₈ l₉) (λ x leave again.
+        whiles ! 𝓣 μ (I l₀ l₁ l₂ l₃ l₄ l₅ l₆ l₇ l₈ l₉)
+        (λ x leave again back.
         assigns ! (of-opd ! (load ! (from ! (fld ! refl (stop !))) (look-in ! 18 (sub ! 1 refl (whole !))))) (from ! (stop !)) (init ! 4 refl (tt, record { fits = room-slots .0 })) $
         assigns ! (bin ! (load ! (from ! (stop !)) (look ! 8 refl)) (load ! (from ! (stop !)) (look ! 4 refl)) tt) (from ! (stop !)) (init ! 2 refl (tt, tt)) $
         tests ! (load ! (from ! (stop !)) (look ! 2 refl))
         (λ less.
-        let within : x .1 < length slots = ltb→lt (x .1) (length slots) less in
-        let fits : x .1 < 2 ^ 64 = below-fits (length slots) (x .1) (room-slots .0) within in
-        let fits′ : x .1 + 1 < 2 ^ 64 = next-fits (length slots) (x .1) (room-slots .0) within in
+        let within : (x .1) < length slots = ltb→lt (x .1) (length slots) less in
+        let fits′ : (x .1) + 1 < 2 ^ 64 = next-fits (length slots) (x .1) (room-slots .0) within in
         -- `allocation_at`
-        calls-shared ! fm Slot-t.the-row allocation-row (allocation-at.clauses 𝓤 H A mem run) (λ r. r ≡ slotAt slots (x .1) .allocation) (named 0) (a .0 .ptr .0) (a .0 .ptr .1) slots (sliceVal (a .0 .ptr) (length slots)) ((x .1), tt) (uint-row w64, tt) tt known-allocation-at ((refl, fits), tt) (shown 𝓤 H A within) (λ r ws. id⊢ 𝓤 _)
-        (and-then ! (load ! (from ! (stop !)) (look ! 18 refl)) (and-then ! (load ! (from ! (stop !)) (look ! 8 refl)) (no-more !))) (λ r7 is7 e7. land ! (from ! (stop !)) (init ! 6 refl (allocation-typed 𝓤 H A W r7 is7)) $
+        calls-shared ! fm Slot-t.the-row allocation-row (allocation-at.clauses 𝓤 H A mem run) (λ r. _) (named 0) (a .0 .ptr .0) (a .0 .ptr .1) slots (sliceVal (a .0 .ptr) (length slots)) ((x .1), tt) (uint-row w64, tt) tt known-allocation-at ((refl, (x .2 .1 .0)), tt) (shown 𝓤 H A within) (λ r ws. id⊢ 𝓤 _)
+        (and-then ! (load ! (from ! (stop !)) (look ! 18 refl)) (and-then ! (load ! (from ! (stop !)) (look ! 8 refl)) (no-more !))) (λ r-allocation-at is-allocation-at e-allocation-at. land ! (from ! (stop !)) (init ! 6 refl (allocation-typed 𝓤 H A W r-allocation-at is-allocation-at)) $
         -- `surveyed_with`
-        calls-value ! fm survey-row (surveyed-with.clauses 𝓤 H A mem run) (SurveyedWith (x .0) (x .1) time five-tuple user r7) (survey-row, (uint-row w64, (uint-row w64, (fivetuple-row, (uint-row w8, (allocation-row, tt)))))) ((x .0), ((x .1), (time, (five-tuple, (user, (r7, tt)))))) tt known-surveyed-with ((x .2 .0), ((refl, fits), ((refl, g-time), (is-five-tuple, ((refl, g-user), (is7, tt)))))) (shown 𝓤 H A (held-fits slots (x .1) (slots-fit (length slots) room-slots) (x .2 .1))) (λ r ws. id⊢ 𝓤 _)
-        (and-then ! (load ! (from ! (stop !)) (look ! 11 refl)) (and-then ! (load ! (from ! (stop !)) (look ! 9 refl)) (and-then ! (load ! (from ! (stop !)) (look ! 17 refl)) (and-then ! (load ! (from ! (stop !)) (look ! 15 refl)) (and-then ! (load ! (from ! (stop !)) (look ! 13 refl)) (and-then ! (load ! (from ! (stop !)) (look ! 7 refl)) (no-more !))))))) (λ r5 is5 e5. land ! (from ! (stop !)) (store ! 10 refl (survey-typed 𝓤 H A W r5 is5)) $
+        calls-value ! fm survey-row (surveyed-with.clauses 𝓤 H A mem run) (SurveyedWith (x .0) (x .1) time five-tuple user r-allocation-at) (survey-row, (uint-row w64, (uint-row w64, (fivetuple-row, (uint-row w8, (allocation-row, tt)))))) ((x .0), ((x .1), (time, (five-tuple, (user, (r-allocation-at, tt)))))) tt known-surveyed-with ((x .2 .0), ((refl, (x .2 .1 .0)), ((refl, g-time), (is-five-tuple, ((refl, g-user), (is-allocation-at, tt)))))) (shown 𝓤 H A (held-fits slots (x .1) (slots-fit (length slots) room-slots) (x .2 .1 .1))) (λ r ws. id⊢ 𝓤 _)
+        (and-then ! (load ! (from ! (stop !)) (look ! 11 refl)) (and-then ! (load ! (from ! (stop !)) (look ! 9 refl)) (and-then ! (load ! (from ! (stop !)) (look ! 17 refl)) (and-then ! (load ! (from ! (stop !)) (look ! 15 refl)) (and-then ! (load ! (from ! (stop !)) (look ! 13 refl)) (and-then ! (load ! (from ! (stop !)) (look ! 7 refl)) (no-more !))))))) (λ r-surveyed-with is-surveyed-with e-surveyed-with. land ! (from ! (stop !)) (store ! 10 refl (survey-typed 𝓤 H A W r-surveyed-with is-surveyed-with)) $
         assigns-last ! (bin ! (load ! (from ! (stop !)) (look ! 8 refl)) (lit ! tt) (record { fits = fits′ })) (from ! (stop !)) (store ! 8 refl (tt, record { fits = fits′ })) $
         forget ! 2 refl $ forget ! 4 refl $ forget ! 6 refl $
-        again (r5, x .1 + 1, (is5, survey-next slots (x .1) within (x .2 .1) e7 e5)) (falls (length slots) (x .1) within))))
+        again (r-surveyed-with, ((x .1) + 1), (is-surveyed-with, (fits′, (survey-next slots (x .1) within (x .2 .1 .1) e-allocation-at e-surveyed-with)))) (falls (length slots) (x .1) within))))
         (λ over. leave _ (
         assigns ! (of-opd ! (load ! (from ! (stop !)) (look ! 10 refl))) (from ! (stop !)) (init ! 20 refl (survey-typed 𝓤 H A W (x .0) (x .2 .0))) $
         returns ! (look ! 20 refl) $ out ! 20 refl refl $ out ! 18 refl refl $ out ! 16 refl refl $ out ! 14 refl refl $ out ! 12 refl refl $ out ! 10 refl refl $ out ! 8 refl refl $ out-room ! 6 refl refl $ out ! 4 refl refl $ out ! 2 refl refl $ free0 ! $
-        keep ! (0 ∷ 1 ∷ []) $ by ! (exits (x .0) (survey-all slots (x .1) (nltb→le (x .1) (length slots) over) (x .2 .1)) (x .2 .0)))))
-        (r5, 0, (is5, e5 time five-tuple user)))))))))))))
+        keep ! (0 ∷ 1 ∷ []) $ by ! (exits (x .0) (survey-all slots (x .1) (nltb→le (x .1) (length slots) over) (x .2 .1 .1)) (x .2 .0)))))
+        (r-first-survey, 0, (is-first-survey, (lit< tt, (e-first-survey time five-tuple user)))))))))))))))
 
 pub survey-spec : {M : Type 1} → stated.statement M
 unfolding code.routine tablesOf

@@ -1,0 +1,61 @@
+# Structs and enums: a field's value and fact, a value that is put together, a field that is overwritten.
+from . import source
+from .types import Number, Value, atom, tupled
+
+
+def laws(type_, name):
+    return '%s.%s %s-t.the-type %s-l.the-laws' % ('EL' if source.variants(type_) else 'SL', name, type_.name, type_.name)
+
+
+def owed(type_, value):
+    """The facts of a struct's fields, as nested pairs."""
+    return '%s %s _ %s' % (laws(type_, 'owed'), atom(value.text), atom(value.fact))
+
+
+def field_fact(type_, value, number, of):
+    """The fact of one field: of a number that it fits, else that the machine holds it."""
+    return owed(type_, value) + ' .1' * number + ' .0' + (' .1' if isinstance(of, Number) else '')
+
+
+def field_value(walk, type_, value, fields):
+    """A field, or a field of a field."""
+    for number in fields:
+        name = source.field_names(type_)[number]
+        of = source.field_type(type_, number)
+        value = Value('(%s .%s)' % (value.text, name), field_fact(type_, value, number, of))
+        type_ = of
+    return value
+
+
+def put_together(walk, k, operands):
+    """The value of a struct or an enum that is made of operands."""
+    type_ = walk.types[k]
+    variants = source.variants(type_)
+    if variants:
+        variant = variants[int(operands[0][2])]
+        maker, operands = variant, operands[1:]
+        walk.made.setdefault(type_, set()).add(variant)
+    else:
+        maker = type_.low
+    values = [walk.value(operand) for operand in operands]
+    name = 'value.' + walk.local_name(k)
+    if walk.answers.has(name) or not (variants or maker in walk.rows):
+        text = walk.ask(name)
+    else:
+        text = ' '.join([maker] + [atom(value.text) for value in values])
+        walk.makers.add(maker)
+    known = 'is-' + (variant.lower() if variants else maker)
+    if known in walk.rows:
+        fact = ' '.join([known] + [atom(value.text) for value in values] + [atom(value.fact) for value in values])
+    else:
+        facts = [walk.operand_type(operand).shown(value) for operand, value in zip(operands, values)]
+        fact = '%s %s %s' % (laws(type_, 'owes'), atom(text), tupled(facts))
+    return Value(text, fact)
+
+
+def overwritten(walk, type_, value, number, new, of, text):
+    """That the machine holds the struct `text`, which is `value` with one field overwritten."""
+    before = [owed(type_, value) + ' .1' * k + ' .0' for k in range(number)]
+    after = owed(type_, value) + ' .1' * (number + 1)
+    facts = ''.join('(%s, ' % fact for fact in before) + '(%s, %s)' % (of.shown(new), after) + ')' * len(before)
+    return '%s %s %s' % (laws(type_, 'owes'), atom(text), facts)
