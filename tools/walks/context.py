@@ -1,7 +1,7 @@
 # What is known at a point of a walk: which position of the context Γ holds what, what each local holds, what each reference leads to.
 import copy
 
-from .types import Array, Bool, Named, Number, Slice, Value, atom, listed, nth_of
+from .types import Array, Named, Number, Slice, Value, listed, nth_of
 
 
 class Context:

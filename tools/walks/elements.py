@@ -1,5 +1,4 @@
 # One element of a lent slice of structs, read or overwritten: s[k]. The MIR makes its place of the slice's pointer and k sizes of an element.
-from . import source
 from .mir import place_of
 from .structs import field_value
 from .types import Value, atom, subscript
@@ -53,7 +52,7 @@ def print_read(walk, k, place):
     value = Value('(getD %s %s %s)' % (context.now[s], index, default), 'is-element')
     way, look = '(stop !)', '(look-raw ! 0 refl)'
     if place.fields:
-        value = field_value(walk, type_, value, place.fields)
+        value = field_value(type_, value, place.fields)
         way, look = '(fld ! refl (stop !))', '(look-in ! 0 (sub ! %d refl (whole-raw ! %s)))' % (place.fields[0], type_.mir)
     slice_ = arguments(walk, element)
     walk.out('look-element ! tt %s (%s-copy 𝓤 H A W) %s %s %s %s %s (λ q′ is-element.' % (type_.row, type_.low, slice_, machine, index, default, element.within))

@@ -1,7 +1,7 @@
 # What stands around the steps of a walk: the function's contract in the walk's words, the start, the end, and the theorem.
 import re
 
-from . import source
+from .context import Context
 from .types import Array, Bool, Named, Number, Slice, atom, hyphens, listed, nth_of, subscript, tupled
 from .walk import Unknown
 
@@ -14,8 +14,6 @@ class Frame:
         self.names = walk.names
         self.types = walk.types
         self.result = walk.types[0]
-        # the context as it was at the start
-        from .context import Context
         self.start = Context(walk.function, walk.names)
         self.references = self.start.references
         self.changed = [k for k in self.references if self.types[k].mutable]

@@ -1,4 +1,5 @@
 # A call of any signature: each reference is lent, the arguments are put together, the call is made, each reference comes back.
+from .call import clauses, ensured, land, required
 from .mir import place_of
 from .types import Array, Number, Slice, Value, atom, nth_of, subscript, tupled
 from .walk import Unknown
@@ -26,7 +27,6 @@ def print_any(walk, call):
     print_arguments(walk, call, loans)
     print_made(walk, call, loans)
     print_back(walk, call, loans)
-    from .calls import land
     walk.out(land(walk, call))
 
 
@@ -146,7 +146,6 @@ def joined(entries, entry, how):
 
 
 def print_made(walk, call, loans):
-    from .calls import clauses, ensured, required
     numbers = range(call.callee.lifetimes)
     lifetimes = tupled(loan_for(call, loans, n).lifetime for n in numbers)
     shares = tupled(loan_for(call, loans, n).share for n in numbers)

@@ -1,9 +1,23 @@
-# An `if` that returns, and a `while`.
+# The statements of a body in their order, with an `if` that returns, and a `while`.
 import re
 
-from .mir import Place, is_if, statements
+from .mir import is_if, is_loop, statements
+from .statements import print_return, print_statement
 from .types import Array, Named, Number, Slice, Value, atom, listed, subscript
 from .walk import Unknown
+
+
+def run(walk, body, within):
+    """Walks through statements up to a return. `within` is 'function', 'branch' or 'turn'."""
+    for number, statement in enumerate(body):
+        rest = body[number + 1:]
+        if statement == 'return':
+            return print_return(walk, within)
+        if is_if(statement):
+            return print_guard(walk, statement, lambda: run(walk, rest, within), within)
+        if is_loop(statement):
+            return print_loop(walk, statement[1][1], rest, within)
+        print_statement(walk, statement)
 
 
 # ---- if c { .. return }
@@ -16,7 +30,7 @@ def print_guard(walk, statement, walk_on, within):
 
     def held():
         walk.where = place
-        walk.run(statements(statement[2]), inner)
+        run(walk, statements(statement[2]), inner)
 
     walk.out('guards ! %s' % walk.operand(statement[1]))
     walk.branch('(λ held.', 'held.' + place, held)
@@ -133,7 +147,7 @@ def print_state(walk, loop):
     for part in loop.parts:
         part.set(walk, Value(part.name, ''))
     parts = ' × '.join('(%s : %s)' % (part.name, part.values) for part in loop.parts)
-    facts = ' × ('.join([part.fact(walk) for part in loop.known] + [atom(walk.ask('invariant'))]) + ')' * len(loop.known)
+    facts = ' × ('.join([part.fact(walk) for part in loop.known] + [walk.ask('invariant')]) + ')' * len(loop.known)
     for number, part in enumerate(loop.parts):
         fact = 'x .%d%s .0' % (len(loop.parts), ' .1' * loop.known.index(part)) if part in loop.known else 'tt'
         part.set(walk, Value('(x .%d)' % number, atom(fact)))
@@ -178,7 +192,6 @@ def print_turn(walk, loop, turn, before, rest):
         if is_if(statement):
             return print_guard(walk, statement, lambda: print_turn(walk, loop, left, before, rest), 'turn')
         if left:
-            from .statements import print_statement
             print_statement(walk, statement)
         else:
             print_last(walk, loop, statement, before)
@@ -186,13 +199,12 @@ def print_turn(walk, loop, turn, before, rest):
 
 def print_after(walk, rest):
     walk.where = 'over'
-    walk.run(rest, 'function')
+    run(walk, rest, 'function')
 
 
 def print_last(walk, loop, statement, before):
     """A turn's last statement, an assignment; then the context is the loop's again, in the next state. In the answers to `kept` and `falls` a
     {name} is what was held at the turn's start."""
-    from .statements import print_statement
     if statement[0] != 'assign':
         raise Unknown('a turn that ends with a call: an assignment has to follow it')
     first = len(walk.lines)

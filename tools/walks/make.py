@@ -2,6 +2,7 @@
 from .answers import Answers
 from .frame import Frame
 from .imports import Imports, rows_of
+from .loops import run
 from .walk import Walk
 
 
@@ -18,7 +19,7 @@ def make(function, functions):
     answers = Answers(answers_path(function))
     walk = Walk(function, functions, answers, rows_of(function.crate))
     walk.put_lines('start')
-    walk.run(function.body, 'function')
+    run(walk, function.body, 'function')
     walk.close(len(walk.types) + walk.open)
     frame = Frame(walk)
     text = '\n'.join(frame.first_lines() + walk.lines + frame.last_lines())

@@ -3,7 +3,7 @@ from . import elements, source
 from .calls import print_call
 from .mir import Place, items, place_of
 from .structs import field_value, overwritten, put_together
-from .types import Array, Bool, Named, Number, Slice, Unit, Value, atom, listed, subscript
+from .types import Array, Bool, Number, Slice, Value, atom, listed, subscript
 from .walk import Unknown
 
 TESTS = {'lt': 'ltb', 'le': 'leb', 'eq': 'eqb'}
@@ -117,12 +117,10 @@ RIGHT_SIDES = {'rvOpd': print_copy, 'op2': print_two, 'op1': print_not, 'repeat'
 # ---- through a reference
 
 def opened(walk, k):
-    """What the steps that open and shut the value behind a `&mut` are called, and their first arguments."""
-    context, to = walk.context, walk.types[k].to
-    place = '%s %s' % (context.base(k), context.offset(k))
-    if isinstance(to, Number):
-        return 'num', 'tt %s w%d %s %s' % (context.lifetime(k), to.width, place, atom(context.now[k]))
-    return 'val', 'tt %s tt %s %s %s' % (atom(to.row), context.lifetime(k), place, atom(context.now[k]))
+    """The first arguments of the steps that open and shut the value behind a `&mut`."""
+    context = walk.context
+    row, place = atom(walk.types[k].to.row), '%s %s' % (context.base(k), context.offset(k))
+    return 'tt %s tt %s %s %s' % (row, context.lifetime(k), place, atom(context.now[k]))
 
 
 def bring_to_front(walk, k):
@@ -137,18 +135,17 @@ def print_read(walk, k, place):
     if y in walk.context.elements:
         return elements.print_read(walk, k, place)
     bring_to_front(walk, y)
-    kind, arguments = opened(walk, y)
-    fact, now = 'g-%d' % k, walk.context.now[y]
-    value = Value(now, fact)
+    to, now, known, arguments = walk.types[y].to, walk.context.now[y], 'is-read-%d' % k, opened(walk, y)
+    value = Value(now, known + ' .1' if isinstance(to, Number) else known)
     way, look = '(stop !)', '(look ! 0 refl)'
     if place.fields:
-        value = field_value(walk, walk.types[y].to, value, place.fields)
+        value = field_value(to, value, place.fields)
         way, look = '(fld ! refl (stop !))', '(look-in ! 0 (sub ! %d refl (whole !)))' % place.fields[0]
-    cell = walk.context.cell(y)
-    walk.out('%s-look ! %s (λ %s.' % (kind, arguments, fact))
+    walk.out('val-look ! %s (λ %s.' % (arguments, known))
     walk.open += 1
-    step = '(of-opd ! (load ! (from ! (hop ! (look ! %d refl) %s)) %s))' % (cell, way, look)
-    walk.out('assigns ! %s (from ! (stop !)) %s $ %s-shut ! %s %s %s $' % (step, walk.write(k, value), kind, arguments, atom(now), fact))
+    step = '(of-opd ! (load ! (from ! (hop ! (look ! %d refl) %s)) %s))' % (walk.context.cell(y), way, look)
+    walk.assign(k, step, value)
+    walk.out('val-shut ! %s %s %s $' % (arguments, atom(now), known))
 
 
 def print_store(walk, place, operand):
@@ -158,29 +155,29 @@ def print_store(walk, place, operand):
         return elements.print_store(walk, place, operand)
     if place.fields:
         return print_field_store(walk, place, operand)
-    context, to, value = walk.context, walk.types[y].to, walk.value(operand)
+    to, value, known = walk.types[y].to, walk.value(operand), '_'
     bring_to_front(walk, y)
-    kind, arguments = opened(walk, y)
-    walk.out('%s-open ! %s $' % (kind, arguments))
-    walk.out('assigns ! (of-opd ! %s) (from ! (hop ! (look ! %d refl) (stop !))) (store ! 0 refl %s) $ %s-shut ! %s %s %s $'
-             % (walk.operand(operand), context.cell(y), to.typed(value), kind, arguments, atom(value.text), atom(value.fact)))
-    context.now[y] = value.text
+    print_overwrite(walk, y, operand, '(stop !)', '(store ! 0 refl %s)' % to.typed(value), value.text, to.shown(value), known)
 
 
 def print_field_store(walk, place, operand):
     context, y, number = walk.context, place.local, place.fields[0]
-    type_, new = walk.types[y].to, walk.value(operand)
-    of = source.field_type(type_, number)
+    type_, new, known = walk.types[y].to, walk.value(operand), 'is-before-%d' % len(walk.lines)
+    of, text = source.field_type(type_, number), walk.ask('value.' + walk.local_name(y))
+    shown = overwritten(type_, Value(context.now[y], known), number, new, of, text)
+    store = '(store-in ! 0 (sub ! %d refl (whole !)) %s)' % (number, of.typed(new))
     bring_to_front(walk, y)
-    kind, arguments = opened(walk, y)
-    fact = 'g-%s-%d' % (context.names[y], len(walk.lines))
-    text = walk.ask('value.' + walk.local_name(y))
-    is_new = overwritten(walk, type_, Value(context.now[y], fact), number, new, of, text)
-    walk.out('val-look ! %s (λ %s.' % (arguments, fact))
+    print_overwrite(walk, y, operand, '(fld ! refl (stop !))', store, text, shown, known)
+
+
+def print_overwrite(walk, y, operand, way, store, text, shown, known):
+    """The value behind a `&mut` is opened, stored to, and shut as `text`."""
+    arguments = opened(walk, y)
+    walk.out('val-look ! %s (λ %s.' % (arguments, known))
     walk.open += 1
-    walk.out('assigns ! (of-opd ! %s) (from ! (hop ! (look ! %d refl) (fld ! refl (stop !)))) (store-in ! 0 (sub ! %d refl (whole !)) %s) $ val-shut ! %s %s %s $'
-             % (walk.operand(operand), context.cell(y), number, of.typed(new), arguments, atom(text), atom(is_new)))
-    context.now[y] = text
+    walk.out('assigns ! (of-opd ! %s) (from ! (hop ! (look ! %d refl) %s)) %s $' % (walk.operand(operand), walk.context.cell(y), way, store))
+    walk.out('val-shut ! %s %s %s $' % (arguments, atom(text), atom(shown)))
+    walk.context.now[y] = text
 
 
 # ---- the return

@@ -17,7 +17,7 @@ def field_fact(type_, value, number, of):
     return owed(type_, value) + ' .1' * number + ' .0' + (' .1' if isinstance(of, Number) else '')
 
 
-def field_value(walk, type_, value, fields):
+def field_value(type_, value, fields):
     """A field, or a field of a field."""
     for number in fields:
         name = source.field_names(type_)[number]
@@ -53,7 +53,7 @@ def put_together(walk, k, operands):
     return Value(text, fact)
 
 
-def overwritten(walk, type_, value, number, new, of, text):
+def overwritten(type_, value, number, new, of, text):
     """That the machine holds the struct `text`, which is `value` with one field overwritten."""
     before = [owed(type_, value) + ' .1' * k + ' .0' for k in range(number)]
     after = owed(type_, value) + ' .1' * (number + 1)

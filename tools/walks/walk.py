@@ -3,7 +3,8 @@ import re
 
 from . import source
 from .context import Context
-from .mir import is_if, is_loop, place_of
+from .mir import place_of
+from .structs import field_value
 from .types import Bool, Number, Slice, Unit, Value, atom, hyphens
 
 
@@ -142,13 +143,13 @@ class Walk:
         if isinstance(self.types[k], Slice):
             name = self.names[k]
             return Value('(length %s)' % name, 'room-%s .0' % name)
-        from .structs import field_value
-        return field_value(self, self.types[k], context.values[k], place.fields)
+        return field_value(self.types[k], context.values[k], place.fields)
 
     def operand_type(self, operand):
         place = place_of(operand)
         if not place:
-            return {'unit': Unit(), 'opdUnit': Unit(), 'true': Bool(), 'false': Bool()}[operand] if isinstance(operand, str) else Number(int(operand[1]))
+            words = {'unit': Unit(), 'opdUnit': Unit(), 'true': Bool(), 'false': Bool()}
+            return words[operand] if isinstance(operand, str) else Number(int(operand[1]))
         type_ = self.types[place.local]
         if isinstance(type_, Slice) and place.steps:
             return Number(64)
@@ -167,21 +168,7 @@ class Walk:
         """An assignment to a whole local."""
         self.out('assigns ! %s (from ! (stop !)) %s $' % (source_text, self.write(k, value)))
 
-    # ---- statements in order
-
-    def run(self, statements, within):
-        """Walks through statements up to a return. `within` is 'function', 'branch' or 'turn'."""
-        from .loops import print_guard, print_loop
-        from .statements import print_return, print_statement
-        for number, statement in enumerate(statements):
-            rest = statements[number + 1:]
-            if statement == 'return':
-                return print_return(self, within)
-            if is_if(statement):
-                return print_guard(self, statement, lambda: self.run(rest, within), within)
-            if is_loop(statement):
-                return print_loop(self, statement[1][1], rest, within)
-            print_statement(self, statement)
+    # ---- branches
 
     def branch(self, head, place, walk_on):
         """One branch, as a function of what it learns."""

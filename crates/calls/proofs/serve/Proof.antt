@@ -89,7 +89,7 @@ module _ {M : Type 1} (𝓤 : URA M) (H : Heap 𝓤) (A : Atoms 𝓤) (W : Given
 
   -- ---- the loop: its state, with what is known of it and, last, the invariant; its measure; and the context in that state
   abbrev State : Type 0
-  State = (x-window : Window) × (x-turns : ℕ) × (x-slots : List Slot) × (x-clock : ℕ) × (x-input : List ℕ) × (x-output : List ℕ) × ((Is Window-t.the-row x-window (window-row .val x-window ∷ [])) × ((x-turns < 2 ^ 64) × ((length x-slots ≡ length slots) × ((length x-input ≡ length input) × ((length x-output ≡ length output) × ((Unit {0})))))))
+  State = (x-window : Window) × (x-turns : ℕ) × (x-slots : List Slot) × (x-clock : ℕ) × (x-input : List ℕ) × (x-output : List ℕ) × ((Is Window-t.the-row x-window (window-row .val x-window ∷ [])) × ((x-turns < 2 ^ 64) × ((length x-slots ≡ length slots) × ((length x-input ≡ length input) × ((length x-output ≡ length output) × (Unit {0}))))))
 
   abbrev μ : State → ℕ
   μ x = (x .1)

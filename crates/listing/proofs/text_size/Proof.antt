@@ -58,7 +58,7 @@ module _ {M : Type 1} (𝓤 : URA M) (H : Heap 𝓤) (A : Atoms 𝓤) (W : Given
 
   -- ---- the loop: its state, with what is known of it and, last, the invariant; its measure; and the context in that state
   abbrev State : Type 0
-  State = (x-size : ℕ) × (x-i : ℕ) × ((x-size < 2 ^ 64) × ((x-i < 2 ^ 64) × ((Sizing (slotLines clock) 5610 slots x-size x-i))))
+  State = (x-size : ℕ) × (x-i : ℕ) × ((x-size < 2 ^ 64) × ((x-i < 2 ^ 64) × (Sizing (slotLines clock) 5610 slots x-size x-i)))
 
   abbrev μ : State → ℕ
   μ x = length slots - (x .1)

@@ -67,7 +67,7 @@ module _ {M : Type 1} (𝓤 : URA M) (H : Heap 𝓤) (A : Atoms 𝓤) (W : Given
 
   -- ---- the loop: its state, with what is known of it and, last, the invariant; its measure; and the context in that state
   abbrev State : Type 0
-  State = (x-place : ℕ) × (x-i : ℕ) × (x-output : List ℕ) × ((x-place < 2 ^ 64) × ((x-i < 2 ^ 64) × ((length x-output ≡ length output) × ((Putting (slotLines clock) slots 0 output x-output x-place x-i)))))
+  State = (x-place : ℕ) × (x-i : ℕ) × (x-output : List ℕ) × ((x-place < 2 ^ 64) × ((x-i < 2 ^ 64) × ((length x-output ≡ length output) × (Putting (slotLines clock) slots 0 output x-output x-place x-i))))
 
   abbrev μ : State → ℕ
   μ x = length slots - (x .1)

@@ -1,7 +1,8 @@
 -- `relay::relay_datagram` meets its contract: a walk of its MIR, made by tools/rewalk.
 use Rattle.walk.proofs.Pre.{ℕ, _-_, ftrue, flft, SProp, ent, emp, via, fst∗, id⊢, Lfts, Shares, Fun, givenOf, tables, u64, u8, yes, Is, owns, MutRef, ptr-vals, mut-tells, plain, sliceVal, MutSlice, Room, slice-vals, mut-slice-tells, ShrSlice, shr-slice-tells, owned, nothing, onEntry, Args, Vals, Triple, cited, says, Stays, stay-slice, stay-none, walkOf, goes-slice, goes-none, ends-at, walked, stay-none-slice, goes-none-slice, stay-ref, goes-ref, Atoms, fullShare, URA, length, [], _∷_, List, refl, sym, _≡_, _∙_, named, w64, w8, Val, vptr, Memory, Routine, Heap, Calls, Loops, WpFn, FmC, Given, feqL, ‵, _⊛_, ⋆, _$_, _∵_, !, qed, by, move, drop, split, join, fsplit, fjoin, suffices, frame, done, keep, Item, whole, sub, look-in, agg, look, init, stop, hop, fld, from, load, lit, of-opd, bin, assigns, returns, enter, alloc1, alloc0, params1, pass1, pass0, free0, store, and-then, no-more, land, addr, returns-within}
-use Rattle.walk.proofs.Walk.{uint-row, bool-row, ref, shown, asks-none, num-look, num-open, num-shut, Of, tokens, calls-any, calls-value, out, out-room, guards, holds-true, fails-false, framed-calls, finish}
+use Rattle.walk.proofs.Walk.{uint-row, bool-row, ref, shown, asks-none, Of, tokens, calls-any, calls-value, out, out-room, guards, holds-true, fails-false, framed-calls, finish}
 use Rattle.walk.proofs.Lends.{lend-slice, back-slice, copy-slice, calls-shared}
+use Rattle.walk.proofs.Whole.{val-look, val-shut}
 use Rattle.relay.proofs.Rows.{call-row, call-typed, fromclient-row, fromclient-typed, outcome-row, outcome-typed, is-refused}
 use Rattle.relay.specs.declared.calls.Call.{Call}
 use Rattle.relay.proofs.calls.Call as Call-t
@@ -115,13 +116,14 @@ module _ {M : Type 1} (𝓤 : URA M) (H : Heap 𝓤) (A : Atoms 𝓤) (W : Given
         -- the references and their tokens first: from here local k stands at 50 - 2 k
         move ! (44 ∷ 45 ∷ 46 ∷ 47 ∷ 48 ∷ 49 ∷ 50 ∷ 51 ∷ []) $
         move ! (2 ∷ 3 ∷ []) $
-        num-look ! tt (named 1) w64 (a .1 .0 .ptr .0) (a .1 .0 .ptr .1) now-clock (λ g-7.
-        assigns ! (of-opd ! (load ! (from ! (hop ! (look ! 46 refl) (stop !))) (look ! 0 refl))) (from ! (stop !)) (init ! 36 refl (tt, record { fits = g-7 })) $ num-shut ! tt (named 1) w64 (a .1 .0 .ptr .0) (a .1 .0 .ptr .1) now-clock now-clock g-7 $
+        val-look ! tt (uint-row w64) tt (named 1) (a .1 .0 .ptr .0) (a .1 .0 .ptr .1) now-clock (λ is-read-7.
+        assigns ! (of-opd ! (load ! (from ! (hop ! (look ! 46 refl) (stop !))) (look ! 0 refl))) (from ! (stop !)) (init ! 36 refl (tt, record { fits = is-read-7 .1 })) $
+        val-shut ! tt (uint-row w64) tt (named 1) (a .1 .0 .ptr .0) (a .1 .0 .ptr .1) now-clock now-clock is-read-7 $
         assigns ! (of-opd ! (load ! (from ! (fld ! refl (stop !))) (look-in ! 48 (sub ! 1 refl (whole !))))) (from ! (stop !)) (init ! 34 refl (tt, record { fits = room-slots .0 })) $
         assigns ! (of-opd ! (load ! (from ! (fld ! refl (stop !))) (look-in ! 42 (sub ! 1 refl (whole !))))) (from ! (stop !)) (init ! 32 refl (tt, record { fits = room-datagram .0 })) $
         assigns ! (of-opd ! (load ! (from ! (fld ! refl (stop !))) (look-in ! 40 (sub ! 1 refl (whole !))))) (from ! (stop !)) (init ! 30 refl (tt, record { fits = room-reply .0 })) $
         -- `refusal`
-        calls-value ! fm (uint-row w8) (refusal.clauses 𝓤 H A mem run) (λ r. _) (uint-row w64, (uint-row w64, (uint-row w64, (uint-row w64, (call-row, tt))))) (now-clock, ((length slots), ((length datagram), ((length reply), (call, tt))))) tt known-refusal ((refl, g-7), ((refl, room-slots .0), ((refl, room-datagram .0), ((refl, room-reply .0), (is-call, tt))))) (asks-none 𝓤 H A) (λ r ws. id⊢ 𝓤 _)
+        calls-value ! fm (uint-row w8) (refusal.clauses 𝓤 H A mem run) (λ r. _) (uint-row w64, (uint-row w64, (uint-row w64, (uint-row w64, (call-row, tt))))) (now-clock, ((length slots), ((length datagram), ((length reply), (call, tt))))) tt known-refusal ((refl, is-read-7 .1), ((refl, room-slots .0), ((refl, room-datagram .0), ((refl, room-reply .0), (is-call, tt))))) (asks-none 𝓤 H A) (λ r ws. id⊢ 𝓤 _)
         (and-then ! (load ! (from ! (stop !)) (look ! 37 refl)) (and-then ! (load ! (from ! (stop !)) (look ! 35 refl)) (and-then ! (load ! (from ! (stop !)) (look ! 33 refl)) (and-then ! (load ! (from ! (stop !)) (look ! 31 refl)) (and-then ! (load ! (from ! (stop !)) (look ! 45 refl)) (no-more !)))))) (λ r-refusal is-refusal e-refusal. land ! (from ! (stop !)) (init ! 38 refl (tt, record { fits = is-refusal .1 })) $
         assigns ! (bin ! (load ! (from ! (stop !)) (look ! 38 refl)) (lit ! tt) tt) (from ! (stop !)) (init ! 28 refl (tt, tt)) $
         guards ! (load ! (from ! (stop !)) (look ! 28 refl))
@@ -135,8 +137,9 @@ module _ {M : Type 1} (𝓤 : URA M) (H : Heap 𝓤) (A : Atoms 𝓤) (W : Given
         -- `time_of`
         calls-value ! fm (uint-row w64) (time-of.clauses 𝓤 H A mem run) (λ r. _) (call-row, tt) (call, tt) tt known-time-of (is-call, tt) (asks-none 𝓤 H A) (λ r ws. id⊢ 𝓤 _)
         (and-then ! (load ! (from ! (stop !)) (look ! 45 refl)) (no-more !)) (λ r-time-of is-time-of e-time-of. land ! (from ! (stop !)) (store ! 36 refl (tt, record { fits = is-time-of .1 })) $
-        num-open ! tt (named 1) w64 (a .1 .0 .ptr .0) (a .1 .0 .ptr .1) now-clock $
-        assigns ! (of-opd ! (load ! (from ! (stop !)) (look ! 36 refl))) (from ! (hop ! (look ! 46 refl) (stop !))) (store ! 0 refl (tt, record { fits = is-time-of .1 })) $ num-shut ! tt (named 1) w64 (a .1 .0 .ptr .0) (a .1 .0 .ptr .1) now-clock r-time-of (is-time-of .1) $
+        val-look ! tt (uint-row w64) tt (named 1) (a .1 .0 .ptr .0) (a .1 .0 .ptr .1) now-clock (λ _.
+        assigns ! (of-opd ! (load ! (from ! (stop !)) (look ! 36 refl))) (from ! (hop ! (look ! 46 refl) (stop !))) (store ! 0 refl (tt, record { fits = is-time-of .1 })) $
+        val-shut ! tt (uint-row w64) tt (named 1) (a .1 .0 .ptr .0) (a .1 .0 .ptr .1) now-clock r-time-of (refl, is-time-of .1) $
         -- `allocates`
         move ! (4 ∷ 5 ∷ []) $
         calls-shared ! fm u8 bool-row (allocates.clauses 𝓤 H A mem run) (λ r. _) (named 2) (a .1 .1 .1 .0 .ptr .0) (a .1 .1 .1 .0 .ptr .1) datagram (sliceVal (a .1 .1 .1 .0 .ptr) (length datagram)) (call, tt) (call-row, tt) tt known-allocates (is-call, tt) (asks-none 𝓤 H A) (λ r ws. id⊢ 𝓤 _)
@@ -177,7 +180,7 @@ module _ {M : Type 1} (𝓤 : URA M) (H : Heap 𝓤) (A : Atoms 𝓤) (W : Given
         split ! $ move ! (1 ∷ []) $ split ! $ move ! (1 ∷ []) $ split ! $ move ! (1 ∷ []) $ drop ! $ move ! (3 ∷ []) $ fsplit ! $ fsplit ! $ move ! (1 ∷ []) $ feqL ! (λ l-found-in-slots. move ! (0 ∷ 4 ∷ 5 ∷ 6 ∷ []) $ back-slice ! tt Slot-t.the-row (named 0) (a .0 .ptr .0) (a .0 .ptr .1) slots (ws-found-in .0) (sliceVal (a .0 .ptr) (length slots)) l-found-in-slots refl room-slots $ move ! (2 ∷ []) $ fsplit ! $ drop ! $ fsplit ! $ drop ! $ move ! (4 ∷ 5 ∷ 6 ∷ []) $ move ! (1 ∷ 0 ∷ 2 ∷ []) $ move ! (2 ∷ []) $ drop ! $ move ! (2 ∷ []) $ fsplit ! $ fsplit ! $ move ! (1 ∷ []) $ feqL ! (λ l-found-in-reply. move ! (0 ∷ 6 ∷ 7 ∷ 8 ∷ []) $ back-slice ! tt u8 (named 3) (a .1 .1 .1 .1 .0 .ptr .0) (a .1 .1 .1 .1 .0 .ptr .1) reply (ws-found-in .1 .1 .1 .0) (sliceVal (a .1 .1 .1 .1 .0 .ptr) (length reply)) l-found-in-reply refl room-reply $ move ! (2 ∷ []) $ drop ! $
         land ! (from ! (stop !)) (init ! 50 refl (outcome-typed 𝓤 H A W r-found-in is-found-in)) $
         returns ! (look ! 50 refl) $ out ! 50 refl refl $ out ! 48 refl refl $ out ! 46 refl refl $ out ! 44 refl refl $ out ! 42 refl refl $ out ! 40 refl refl $ out ! 38 refl refl $ out ! 36 refl refl $ out ! 34 refl refl $ out ! 32 refl refl $ out ! 30 refl refl $ out ! 28 refl refl $ out ! 26 refl refl $ out-room ! 24 refl refl $ out-room ! 22 refl refl $ out-room ! 20 refl refl $ out-room ! 18 refl refl $ out-room ! 16 refl refl $ out ! 14 refl refl $ out ! 12 refl refl $ out ! 10 refl refl $ out ! 8 refl refl $ free0 ! $
-        keep ! (4 ∷ 5 ∷ 6 ∷ 7 ∷ 2 ∷ 3 ∷ 0 ∷ 1 ∷ []) $ by ! (exits r-found-in (ws-found-in .0) r-time-of (ws-found-in .1 .1 .1 .0) (found-step now-clock slots call datagram reply none e-time-of (sym e-allocates ∙ fails-false r-allocates failed) e-found-in) l-found-in-slots l-found-in-reply is-found-in))))))))))))))))))))))))))))))))))
+        keep ! (4 ∷ 5 ∷ 6 ∷ 7 ∷ 2 ∷ 3 ∷ 0 ∷ 1 ∷ []) $ by ! (exits r-found-in (ws-found-in .0) r-time-of (ws-found-in .1 .1 .1 .0) (found-step now-clock slots call datagram reply none e-time-of (sym e-allocates ∙ fails-false r-allocates failed) e-found-in) l-found-in-slots l-found-in-reply is-found-in)))))))))))))))))))))))))))))))))))
 
 pub relay-datagram-spec : {M : Type 1} → stated.statement M
 unfolding code.routine

@@ -69,7 +69,7 @@ module _ {M : Type 1} (𝓤 : URA M) (H : Heap 𝓤) (A : Atoms 𝓤) (W : Given
 
   -- ---- the loop: its state, with what is known of it and, last, the invariant; its measure; and the context in that state
   abbrev State : Type 0
-  State = (x-i : ℕ) × ((x-i < 2 ^ 64) × ((Passed (inSlot (keyed time key)) slots freshSlot x-i)))
+  State = (x-i : ℕ) × ((x-i < 2 ^ 64) × (Passed (inSlot (keyed time key)) slots freshSlot x-i))
 
   abbrev μ : State → ℕ
   μ x = length slots - (x .0)

@@ -74,7 +74,7 @@ module _ {M : Type 1} (𝓤 : URA M) (H : Heap 𝓤) (A : Atoms 𝓤) (W : Given
 
   -- ---- the loop: its state, with what is known of it and, last, the invariant; its measure; and the context in that state
   abbrev State : Type 0
-  State = (x-survey : Survey) × (x-i : ℕ) × ((Is Survey-t.the-row x-survey (survey-row .val x-survey ∷ [])) × ((x-i < 2 ^ 64) × ((Surveyed (take x-i slots) time five-tuple user x-survey))))
+  State = (x-survey : Survey) × (x-i : ℕ) × ((Is Survey-t.the-row x-survey (survey-row .val x-survey ∷ [])) × ((x-i < 2 ^ 64) × (Surveyed (take x-i slots) time five-tuple user x-survey)))
 
   abbrev μ : State → ℕ
   μ x = length slots - (x .1)
