@@ -17,6 +17,7 @@ class Call:
         number = walk.called[self.callee.path] = walk.called.get(self.callee.path, 0) + 1
         self.question = self.callee.name + ('' if number == 1 else '.%d' % number)
         self.mark = self.name + ('' if number == 1 else '-%d' % number)
+        walk.results['r-' + self.mark] = self.result.values
         self.parameter_names = [hyphens(name) for name in source.parameter_names(self.callee)]
 
     def plain(self):

@@ -55,7 +55,8 @@ def print_read(walk, k, place):
         value = field_value(type_, value, place.fields)
         way, look = '(fld ! refl (stop !))', '(look-in ! 0 (sub ! %d refl (whole-raw ! %s)))' % (place.fields[0], type_.mir)
     slice_ = arguments(walk, element)
-    walk.out('look-element ! tt %s (%s-copy 𝓤 H A W) %s %s %s %s %s (λ q′ is-element.' % (type_.row, type_.low, slice_, machine, index, default, element.within))
+    walk.out('look-element ! tt %s (%s-copy 𝓤 H A W) %s %s %s %s %s (λ q′ is-element.'
+             % (type_.row, type_.low, slice_, machine, index, default, element.within))
     walk.open += 1
     walk.assign(k, '(of-opd ! (load ! (from ! (hop ! (look ! %d refl) %s)) %s))' % (context.cell(place.local), way, look), value)
     walk.out('shut-element ! tt %s %s %s %s %s q′ %s $' % (type_.row, slice_, machine, index, default, element.within))
@@ -70,6 +71,7 @@ def print_store(walk, place, operand):
     walk.out('open-element ! tt %s %s %s %s %s %s $' % (type_.row, slice_, machine, index, default, element.within))
     walk.out('assigns ! (of-opd ! %s) (from ! (hop ! (look ! %d refl) (stop !))) (store-raw ! 0 refl %s) $'
              % (walk.operand(operand), context.cell(place.local), type_.typed(value)))
-    walk.out('put-element ! tt %s %s %s %s %s %s %s $' % (type_.row, slice_, index, atom(value.text), atom(value.fact), element.within, context.room(s)))
+    walk.out('put-element ! tt %s %s %s %s %s %s %s $'
+             % (type_.row, slice_, index, atom(value.text), atom(value.fact), element.within, context.room(s)))
     context.now[s] = '(set %s %s %s)' % (before, index, atom(value.text))
     context.longer(s, '(length-set %s %s %s)' % (before, index, atom(value.text)))

@@ -42,7 +42,8 @@ class Frame:
         for k in self.references:
             lines += self.owner_lines(k)
         for number in range(self.function.lifetimes):
-            lines += ['  abbrev t%d : Item 𝓤' % number, '  t%d = ‵ (flft (%s) (%s))' % (number, nth_of('κs', number), nth_of('qs', number)), '']
+            token = 'flft (%s) (%s)' % (nth_of('κs', number), nth_of('qs', number))
+            lines += ['  abbrev t%d : Item 𝓤' % number, '  t%d = ‵ (%s)' % (number, token), '']
         lines += ['  abbrev Post : Val → SProp 𝓤',
                   '  Post = walkOf 𝓤 H A %s.ended stayed %s .post ((κs, qs, tt, a, at), tt)' % (self.name, self.clauses), '']
         lines += self.said_lines() + self.exits_lines()
@@ -71,7 +72,8 @@ class Frame:
         if type_.is_reference:
             return 'goes-ref 𝓤 H A W %d %d tt (plain (λ _. %s))' % (count, type_.lifetime, type_.to.logic)
         if isinstance(type_, Array):
-            return 'goes-dropped 𝓤 H A W %d (ArrayOf (plain (λ _. %s)) (λ _. tt) %d) yes (λ κs x f. refl)' % (count, type_.of.logic, type_.size)
+            array = '(ArrayOf (plain (λ _. %s)) (λ _. tt) %d)' % (type_.of.logic, type_.size)
+            return 'goes-dropped 𝓤 H A W %d %s yes (λ κs x f. refl)' % (count, array)
         return 'goes-none 𝓤 H A W %d (λ _. %s) yes (λ κs x f. refl)' % (count, type_.logic)
 
     def module_line(self):
@@ -82,8 +84,10 @@ class Frame:
                 facts.append('(g-%s : %s < 2 ^ %d)' % (name, argument, type_.width))
             if isinstance(type_, (Named, Array)):
                 facts.append('(is-%s : Is %s (%s) (%s ∷ []))' % (name, type_.logic, argument, type_.machine(argument)))
-        words = ['module _ {M : Type 1} (𝓤 : URA M) (H : Heap 𝓤) (A : Atoms 𝓤) (W : Given 𝓤 H A) (mem : Memory → SProp 𝓤) (run : Routine → Fun 𝓤)',
-                 '(κs : Lfts %d) (qs : Shares %d) (a : Args %s.signature κs)' % (self.function.lifetimes, self.function.lifetimes, self.name)]
+        count = self.function.lifetimes
+        words = ['module _ {M : Type 1} (𝓤 : URA M) (H : Heap 𝓤) (A : Atoms 𝓤) (W : Given 𝓤 H A)',
+                 '(mem : Memory → SProp 𝓤) (run : Routine → Fun 𝓤)',
+                 '(κs : Lfts %d) (qs : Shares %d) (a : Args %s.signature κs)' % (count, count, self.name)]
         return ' '.join(words + facts + ['where'])
 
     def parameter_lines(self, k):
@@ -115,22 +119,25 @@ class Frame:
 
     def exits_lines(self):
         """The end: from the references at their last values and what is said of them to the function's postcondition."""
-        changed_slices = [k for k in self.slices if k in self.changed]
-        binders = ' '.join(['(r : %s)' % self.result.values] + ['(z-%s : %s)' % (self.names[k], self.types[k].behind) for k in self.changed])
-        lengths = ''.join('length z-%s ≡ length %s → ' % (self.names[k], self.names[k]) for k in changed_slices)
-        machine = atom(self.result.machine('r'))
-        ends = {k: 'z-' + self.names[k] if k in self.changed else self.names[k] for k in self.references}
-        held = listed(text for k in self.references for text in ('Own-%s %s' % (self.names[k], ends[k]), 't%d' % self.types[k].lifetime))
+        slices = [k for k in self.slices if k in self.changed]
+        binders = ['(r : %s)' % self.result.values] + ['(z-%s : %s)' % (self.names[k], self.types[k].behind) for k in self.changed]
+        values = ['r'] + self.last_names()
+        lengths = ''.join('length z-%s ≡ length %s → ' % (self.names[k], self.names[k]) for k in slices)
+        machine = self.result.machine('r')
+        held = atom(listed(text for k in self.references for text in (self.last_owner(k), 't%d' % self.types[k].lifetime)))
         last = tupled('z-' + self.names[k] if k in self.changed else 'tt' for k in self.names)
-        kept = tupled('l-' + self.names[k] if k in changed_slices else 'tt' for k in self.names)
+        kept = tupled('l-' + self.names[k] if k in slices else 'tt' for k in self.names)
+        ends = 'ends-at 𝓤 H A %s.ended stayed %s W ((κs, qs, tt, a, at), tt) %s r %s %s' % (self.name, self.clauses, atom(machine), last, kept)
         said = 'says ! e' if self.walk.tells else 'says-none !'
-        arguments = ' '.join(['r'] + self.last_names() + ['e'] + ['l-' + self.names[k] for k in changed_slices] + ['is'])
-        return ['  exits : %s → Said %s → %sIs %s r (%s ∷ [])' % (binders, ' '.join(['r'] + self.last_names()), lengths, self.result.logic, self.result.machine('r')),
-                '      → ent 𝓤 (⋆ 𝓤 H A %s) (Post %s)' % (atom(held), machine),
-                '  exits %s =' % arguments,
-                '      qed W %s ∵' % atom(held),
-                '      suffices ! _ (ends-at 𝓤 H A %s.ended stayed %s W ((κs, qs, tt, a, at), tt) %s r %s %s) $ %s $' % (self.name, self.clauses, machine, last, kept, said)
-                ] + self.joining_lines()
+        return ['  exits : %s → Said %s → %sIs %s r (%s ∷ [])' % (' '.join(binders), ' '.join(values), lengths, self.result.logic, machine),
+                '      → ent 𝓤 (⋆ 𝓤 H A %s) (Post %s)' % (held, atom(machine)),
+                '  exits %s =' % ' '.join(values + ['e'] + ['l-' + self.names[k] for k in slices] + ['is']),
+                '      qed W %s ∵' % held,
+                '      suffices ! _ (%s) $ %s $' % (ends, said)] + self.joining_lines()
+
+    def last_owner(self, k):
+        """What a reference owns at the end."""
+        return 'Own-%s %s' % (self.names[k], ('z-' if k in self.changed else '') + self.names[k])
 
     def joining_lines(self):
         """The tokens are joined to one entry, then all parameters to another, and then the result is owned."""
@@ -159,30 +166,38 @@ class Frame:
     # ---- the start of the walk
 
     def start_lines(self):
-        walk, count = self.walk, len(self.types)
-        calls, loops = self.table('C'), self.table('Λ')
-        tables = '(𝓣 : Tables 𝓤 H)' if walk.loop else '(C : Calls 𝓤 H) (Λ : Loops 𝓤 H)'
-        framed = '(fm : FmC 𝓤 H (W .laws) %s)' % calls
-        known = ['(known-%s : Triple 𝓤 (%s #%s·%s) (Of 𝓤 H A %s.ended (%s.clauses 𝓤 H A mem run)))' % (f, calls.strip('()'), c, f, f, f)
-                 for c, f in ((callee.crate, hyphens(callee.name)) for callee in walk.callees)]
+        """The walk's own statement, and its steps up to where the code begins."""
+        calls, loops, count = self.table('C'), self.table('Λ'), len(self.types)
+        machine = atom(listed(self.start.machine(k) for k in self.names))
         rooms = ['Room %s (length %s)' % (self.types[k].to.logic, self.names[k]) for k in self.slices]
-        asked = [walk.answers.get('asked')] if walk.asks else []
-        machine = listed(self.start.machine(k) for k in self.names)
-        goal = 'ent 𝓤 (onEntry 𝓤 H A %s.signature κs qs a at) (WpFn 𝓤 H %s %s code.function %s Post)' % (self.name, calls, loops, atom(machine))
-        named = ['room-' + self.names[k] for k in self.slices] + (['asked'] if walk.asks else [])
-        lines = ['  module _ %s where' % ' '.join([tables, framed] + known),
+        asked = [self.walk.answers.get('asked')] if self.walk.asks else []
+        goal = 'ent 𝓤 (onEntry 𝓤 H A %s.signature κs qs a at) (WpFn 𝓤 H %s %s code.function %s Post)' % (self.name, calls, loops, machine)
+        named = ['room-' + self.names[k] for k in self.slices] + (['asked'] if self.walk.asks else [])
+        passed = ['pass1 ! (init ! %d refl %s) $' % (2 * (count - 1 - k), self.types[k].typed(self.start.values[k])) for k in self.names]
+        lines = ['  module _ %s where' % ' '.join(self.known()),
                  '    walk : ' + ' → '.join(rooms + asked + [goal]),
                  '    %s =' % ' '.join(['walk'] + named),
                  '        qed W (%s ∷ ‵ (owns %s a at) ∷ []) ∵' % (self.tokens(), atom(listed(self.owned_type(k) for k in self.names))),
                  '        ' + self.splitting(),
-                 '        enter ! %s %s code.function %s _ $' % (calls, loops, atom(machine)),
+                 '        enter ! %s %s code.function %s _ $' % (calls, loops, machine),
                  '        ' + ''.join('alloc1 ! (λ l%s. ' % subscript(k) for k in range(count)) + 'alloc0 ! $ params1 ! $',
-                 '        ' + ' '.join(['pass1 ! (init ! %d refl %s) $' % (2 * (count - 1 - k), self.types[k].typed(self.start.values[k])) for k in self.names] + ['pass0 ! $'])]
+                 '        ' + ' '.join(passed + ['pass0 ! $'])]
         if self.references:
             first = 2 * len(self.references)
             lines += ['        -- the references and their tokens first: from here local k stands at %d - 2 k' % (first + 2 * (count - 1)),
                       '        move ! (%s) $' % listed(str(2 * count + place) for place in range(first))]
         return lines
+
+    def known(self):
+        """What the walk is given: the tables of calls and loops, and that each callee meets its contract."""
+        calls = self.table('C')
+        given = ['(𝓣 : Tables 𝓤 H)'] if self.walk.loop else ['(C : Calls 𝓤 H)', '(Λ : Loops 𝓤 H)']
+        given.append('(fm : FmC 𝓤 H (W .laws) %s)' % calls)
+        for callee in self.walk.callees:
+            f = hyphens(callee.name)
+            contract = 'Of 𝓤 H A %s.ended (%s.clauses 𝓤 H A mem run)' % (f, f)
+            given.append('(known-%s : Triple 𝓤 (%s #%s·%s) (%s))' % (f, calls.strip('()'), callee.crate, f, contract))
+        return given
 
     def tokens(self):
         text = '‵ ftrue'
@@ -211,31 +226,40 @@ class Frame:
 
     def last_lines(self):
         walk, name = self.walk, self.name
-        arguments = ['(%s%s)' % (nth_of('are', k - 1), ' .1' if isinstance(self.types[k], Number) else '')
-                     for k in self.names if isinstance(self.types[k], (Number, Named, Array))]
-        tables = ['𝓣'] if walk.loop else ['C', 'Λ']
-        lets = ['let 𝓣 = tablesOf 𝓤 H 𝓜 (tables 𝓤 H 𝓜 𝓡 code.env) in'] if walk.loop else \
-            ['let %s = tables 𝓤 H 𝓜 𝓡 code.env .%s in' % (table, table) for table in tables]
-        needs = 'needs 𝓤 %s _' % atom(self.asked_outside()) if walk.asks else 'via 𝓤 _ (fst∗ 𝓤 _ (emp 𝓤))'
         lines = ['', 'pub %s-spec : {M : Type 1} → stated.statement M' % name,
                  'unfolding code.routine' + (' tablesOf' if walk.loop else ''), '%s-spec 𝓤 H 𝓜 𝓖 𝓡 =' % name]
-        lines += ['    ' + line for line in
-                  ['let A = 𝓖 .A in', 'let W = givenOf 𝓤 H 𝓜 𝓖 in', 'let mem = 𝓜 .mem in', 'let run = 𝓡 .run in'] + lets]
+        lets = ['let A = 𝓖 .A in', 'let W = givenOf 𝓤 H 𝓜 𝓖 in', 'let mem = 𝓜 .mem in', 'let run = 𝓡 .run in'] + self.table_lets()
+        lines += ['    ' + line for line in lets]
+        needs = 'needs 𝓤 %s _' % atom(self.asked_outside()) if walk.asks else 'via 𝓤 _ (fst∗ 𝓤 _ (emp 𝓤))'
+        machine, tells = (tupled(of(k) for k in self.names) for of in (self.machine_of, self.tells_of))
         lines += ['    finish 𝓤 H 𝓜 𝓖 𝓡 code.env %s.ended stayed %s' % (name, tupled(self.goes(k) for k in self.names)),
                   '    %s #%s·%s code.function (code.unfolded 𝓤 H 𝓜 𝓡)' % (self.clauses, self.function.crate, name),
                   '    (walked 𝓤 H A %s.ended stayed %s (WpFn 𝓤 H %s %s code.function) (λ κs. %s) (λ κs. %s)'
-                  % (name, self.clauses, self.table('C'), self.table('Λ'), tupled(self.machine_of(k) for k in self.names), tupled(self.tells_of(k) for k in self.names)),
+                  % (name, self.clauses, self.table('C'), self.table('Λ'), machine, tells),
                   '    (λ κs qs bounds a g are. ' + needs,
-                  '    (walk 𝓤 H A W mem run κs qs a ' + ' '.join(arguments + tables + ['(framed-calls 𝓤 H 𝓜 𝓖 𝓡 code.env)'])]
-        for callee in walk.callees:
-            f, way = hyphens(callee.name), '·'.join([callee.crate] + [hyphens(m) for m in callee.modules] + [hyphens(callee.name)])
-            lines.append('    (cited 𝓤 H (Of 𝓤 H A %s.ended (%s.clauses 𝓤 H A mem run)) 𝓜 𝓡 code.env #%s·%s %s-def.routine code.calls-%s (%s-thm.met 𝓤 H 𝓜 𝓖 𝓡))'
-                         % (f, f, callee.crate, f, f, way, f))
-        rooms = ' '.join('(%s .0 .1)' % nth_of('are', k - 1) for k in self.slices)
-        if rooms:
-            lines.append('    ' + rooms)
+                  '    (walk 𝓤 H A W mem run κs qs a ' + ' '.join(self.walk_arguments())]
+        lines += [self.cited_line(callee) for callee in walk.callees]
+        if self.slices:
+            lines.append('    ' + ' '.join('(%s .0 .1)' % nth_of('are', k - 1) for k in self.slices))
         lines[-1] += ')))'
         return lines
+
+    def table_lets(self):
+        if self.walk.loop:
+            return ['let 𝓣 = tablesOf 𝓤 H 𝓜 (tables 𝓤 H 𝓜 𝓡 code.env) in']
+        return ['let %s = tables 𝓤 H 𝓜 𝓡 code.env .%s in' % (table, table) for table in ('C', 'Λ')]
+
+    def walk_arguments(self):
+        facts = ['(%s%s)' % (nth_of('are', k - 1), ' .1' if isinstance(self.types[k], Number) else '')
+                 for k in self.names if isinstance(self.types[k], (Number, Named, Array))]
+        return facts + (['𝓣'] if self.walk.loop else ['C', 'Λ']) + ['(framed-calls 𝓤 H 𝓜 𝓖 𝓡 code.env)']
+
+    def cited_line(self, callee):
+        f = hyphens(callee.name)
+        way = '·'.join([callee.crate] + [hyphens(module) for module in callee.modules] + [f])
+        contract = 'Of 𝓤 H A %s.ended (%s.clauses 𝓤 H A mem run)' % (f, f)
+        return ('    (cited 𝓤 H (%s) 𝓜 𝓡 code.env #%s·%s %s-def.routine code.calls-%s (%s-thm.met 𝓤 H 𝓜 𝓖 𝓡))'
+                % (contract, callee.crate, f, f, way, f))
 
     def asked_outside(self):
         """What the function asks, with its parameters as elements of the arguments."""

@@ -67,7 +67,8 @@ class Imports:
         return name in self.words or (name.startswith('_') and all(part in self.words for part in parts))
 
     def lines(self):
-        return self.kit_lines() + self.law_lines() + self.row_lines() + self.type_lines() + self.callee_lines() + self.walk.answers.uses + self.own_lines()
+        found = self.kit_lines() + self.law_lines() + self.row_lines() + self.type_lines()
+        return found + self.callee_lines() + self.walk.answers.uses + self.own_lines()
 
     def kit_lines(self):
         kit = crate_with('Walk')

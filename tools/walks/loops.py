@@ -125,12 +125,11 @@ def print_loop(walk, turn, rest, within):
     start = loop.state(walk, atom(walk.ask('start')))
     print_state(walk, loop)
     places = ' '.join('l' + subscript(k) for k in range(len(walk.types)))
-    fixed = fixed_results(walk, locals_)
-    print_context(walk, loop, places, fixed)
+    fixed = print_context(walk, loop, places)
     before = set(context.written)
     loop.start = context.copy()
     walk.where = 'turn'
-    walk.out('whiles ! 𝓣 μ (I %s)' % ' '.join([name for name, _ in fixed] + [places]))
+    walk.out('whiles ! 𝓣 μ (I %s)' % ' '.join(fixed + [places]))
     walk.branch('(λ x leave again back.', 'turn', lambda: print_turn(walk, loop, statements(turn), before, rest))
     walk.out(start)
 
@@ -156,18 +155,8 @@ def print_state(walk, loop):
                    '  abbrev μ : State → ℕ', '  μ x = %s' % walk.ask('measure'), '']
 
 
-def fixed_results(walk, locals_):
-    """The results of calls before the loop that locals still hold: the loop's context names them."""
-    context = walk.context
-    found = []
-    for k in sorted(context.written):
-        text = context.values[k].text
-        if k not in walk.names and k not in locals_ and re.fullmatch(r'r-[\w-]+', text):
-            found.append((text, walk.types[k].values))
-    return found
-
-
-def print_context(walk, loop, places, fixed):
+def print_context(walk, loop, places):
+    """Γ in a state of the loop. Returns the results of calls before the loop that it names."""
     context = walk.context
     entries = []
     for k in context.references:
@@ -176,9 +165,12 @@ def print_context(walk, loop, places, fixed):
         mir, place = atom(walk.types[k].mir), 'l' + subscript(k)
         cell = 'fat fullShare %s %s 0 (%s)' % (mir, place, context.held(k)) if k in context.written else 'froom %s %s 0' % (mir, place)
         entries += ['‵ (%s)' % cell, '‵ (fdies %s %s)' % (mir, place)]
-    binders = ''.join('(%s : %s) ' % (name, type_) for name, type_ in fixed)
-    names = ''.join(name + ' ' for name, _ in fixed)
-    loop.lines += ['  abbrev I : %s(%s : ℕ) → State → List (Item 𝓤)' % (binders, places), '  I %s%s x = %s' % (names, places, listed(entries)), '']
+    text = listed(entries)
+    fixed = [name for name in walk.results if name in re.findall(r'[\w-]+', text)]
+    binders = ''.join('(%s : %s) ' % (name, walk.results[name]) for name in fixed)
+    loop.lines += ['  abbrev I : %s(%s : ℕ) → State → List (Item 𝓤)' % (binders, places),
+                   '  I %s x = %s' % (' '.join(fixed + [places]), text), '']
+    return fixed
 
 
 def print_turn(walk, loop, turn, before, rest):

@@ -175,7 +175,8 @@ def print_overwrite(walk, y, operand, way, store, text, shown, known):
     arguments = opened(walk, y)
     walk.out('val-look ! %s (λ %s.' % (arguments, known))
     walk.open += 1
-    walk.out('assigns ! (of-opd ! %s) (from ! (hop ! (look ! %d refl) %s)) %s $' % (walk.operand(operand), walk.context.cell(y), way, store))
+    walk.out('assigns ! (of-opd ! %s) (from ! (hop ! (look ! %d refl) %s)) %s $'
+             % (walk.operand(operand), walk.context.cell(y), way, store))
     walk.out('val-shut ! %s %s %s $' % (arguments, atom(text), atom(shown)))
     walk.context.now[y] = text
 
@@ -200,4 +201,4 @@ def exit_arguments(walk):
     changed = [k for k in context.references if walk.types[k].mutable]
     said = walk.ask_at('ensured', walk.where) if walk.tells else 'tt'
     lengths = [context.lengths[k] for k in changed if isinstance(walk.types[k], Slice)]
-    return [atom(result.text)] + [atom(context.now[k]) for k in changed] + [atom(said)] + [atom(l) for l in lengths] + [atom(walk.types[0].shown(result))]
+    return [atom(text) for text in [result.text] + [context.now[k] for k in changed] + [said] + lengths + [walk.types[0].shown(result)]]

@@ -29,6 +29,7 @@ class Walk:
         self.open = 0
         self.callees = []
         self.called = {}
+        self.results = {}
         self.made = {}
         self.makers = set()
         self.guards = {}
