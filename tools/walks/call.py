@@ -2,13 +2,17 @@
 from . import source
 from .mir import items
 from .types import Array, Named, Number, Value, atom, hyphens, tupled
+from .walk import Unknown
 
 
 class Call:
     """A call, with names for what it brings: r-F its result, is-F that the machine holds it, e-F what F ensures."""
 
     def __init__(self, walk, statement):
-        self.callee = walk.functions[statement[1][1][1]]
+        path = statement[1][1][1]
+        if path not in walk.functions:
+            raise Unknown('a call of %s, whose MIR is not printed' % path)
+        self.callee = walk.functions[path]
         self.operands = items(statement[2])
         self.types = self.callee.parameters
         self.target = int(statement[3][1])

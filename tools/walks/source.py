@@ -51,7 +51,8 @@ def parameter_names(function):
 
 def let_names(function):
     """The `let`s in their order: the MIR gives them the first locals after the parameters."""
-    return re.findall(r'\blet (?:mut )?(\w+)', function_text(function) or '')
+    code = re.sub(r'//.*', '', function_text(function) or '')
+    return re.findall(r'\blet (?:mut )?(\w+)', code)
 
 
 def declaration(type_):

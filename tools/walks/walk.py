@@ -23,17 +23,17 @@ class Walk:
         lets = source.let_names(function)
         self.lets = {hyphens(name): function.count + 1 + number for number, name in enumerate(lets)}
         self.context = Context(function, self.names)
-        self.asks = source.asks(function)
-        self.tells = source.tells(function)
+        self.asks = source.asks(function)    # whether the function has a `requires`
+        self.tells = source.tells(function)  # and an `ensures`
         self.lines = []
-        self.open = 0
+        self.open = 0         # brackets to close at the end of the branch
         self.callees = []
-        self.called = {}
-        self.results = {}
-        self.made = {}
-        self.makers = set()
-        self.guards = {}
-        self.where = 'start'
+        self.called = {}      # how often each callee is called so far
+        self.results = {}     # the results' names and types
+        self.made = {}        # the variants that the code makes, by their enums
+        self.makers = set()   # the functions that make structs
+        self.guards = {}      # how many `if`s stand at each place
+        self.where = 'start'  # the last call
         self.loop = None
 
     # ---- lines

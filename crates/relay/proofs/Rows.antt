@@ -8,7 +8,6 @@ use prog.Wp.{Heap}
 use ghost.Atoms.{Atoms}
 use denote.Array.{Array, arrayVal}
 use denote.Laws.{Is}
-use denote.Enum.Laws as EL
 use denote.Struct.Laws as SL
 use Rattle.walk.proofs.Walk.{Row, Typed, struct-row, enum-row, array-row, array-into, map-twice}
 use Rattle.slots.proofs.Rows.{slot-row}
@@ -20,7 +19,6 @@ use Rattle.address.proofs.Peer.Laws as Peer-l
 use Rattle.address.proofs.TransactionId as TransactionId-t
 use Rattle.address.proofs.TransactionId.Laws as TransactionId-l
 use Rattle.rules.specs.declared.answer.Outcome.{Outcome}
-use Rattle.rules.specs.declared.answer.Outcome.the-variants.{Refused}
 use Rattle.rules.proofs.answer.Answer as Answer-t
 use Rattle.rules.proofs.answer.Answer.Laws as Answer-l
 use Rattle.rules.proofs.answer.Outcome as Outcome-t
@@ -62,9 +60,6 @@ outcome-row = enum-row Outcome-t.the-type Outcome-l.the-laws Outcome-l.the-plain
 
 pub outcome-typed : {M : Type 1} (𝓤 : URA M) (H : Heap 𝓤) (A : Atoms 𝓤) → Typed 𝓤 H A outcome-row Outcome-l.mir
 outcome-typed 𝓤 H A W x is = outcome-row .lawful 𝓤 H A W .typed x _ is .0
-
-pub is-refused : (number : ℕ) → number < 2 ^ 8 → Is Outcome-t.the-row (Refused number) (outcome-row .val (Refused number) ∷ [])
-is-refused number fits = EL.owes Outcome-t.the-type Outcome-l.the-laws (Refused number) ((refl, fits), tt)
 
 abbrev pub answer-row : Row Answer-t.the-row
 answer-row = struct-row Answer-t.the-type Answer-l.the-laws Answer-l.the-plain

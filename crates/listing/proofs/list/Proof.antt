@@ -2,10 +2,12 @@
 use Rattle.walk.proofs.Pre.{ℕ, _<_, _^_, _-_, _≤_, ftrue, flft, SProp, ent, emp, via, fst∗, id⊢, Lfts, Shares, Fun, givenOf, tables, u64, u8, yes, Is, uint-vals, uint-tells, owns, plain, sliceVal, MutSlice, Room, slice-vals, mut-slice-tells, ShrSlice, shr-slice-tells, owned, nothing, onEntry, Args, Vals, Triple, cited, says, Stays, stay-slice, stay-none, walkOf, goes-slice, goes-none, ends-at, walked, stay-none-slice, goes-none-slice, Atoms, URA, lit<, ltb→lt, nltb→le, eqb, length, not, [], _∷_, List, refl, sym, _≡_, _∙_, subst, named, w64, Val, vint, Memory, Routine, Heap, Calls, Loops, WpFn, FmC, Given, ‵, _⊛_, ⋆, _$_, _∵_, !, qed, by, move, drop, split, join, fsplit, fjoin, suffices, frame, done, keep, Item, whole, sub, look-in, agg, look, init, stop, hop, fld, from, load, lit, of-opd, bin, assigns, returns, enter, alloc1, alloc0, params1, pass1, pass0, free0, store, and-then, no-more, land, addr, returns-within}
 use Rattle.walk.proofs.Walk.{uint-row, unit-row, ref, shown, asks-none, Of, tokens, out, out-room, guards, holds-true, fails-false, framed-calls, finish}
 use Rattle.walk.proofs.Lends.{calls-shared, calls-both}
-use Rattle.listing.proofs.Rows.{listed-row, listed-typed, is-refused, is-length}
+use denote.Enum.Laws as EL
+use Rattle.listing.proofs.Rows.{listed-row, listed-typed}
 use Rattle.listing.specs.declared.Listed.{Listed}
 use Rattle.listing.specs.declared.Listed.the-variants.{Length, Refused}
 use Rattle.listing.proofs.Listed as Listed-t
+use Rattle.listing.proofs.Listed.Laws as Listed-l
 use Rattle.table.specs.declared.Slot.{Slot}
 use Rattle.table.proofs.Slot as Slot-t
 use Rattle.slots.proofs.slot_count as slot-count
@@ -87,9 +89,9 @@ module _ {M : Type 1} (𝓤 : URA M) (H : Heap 𝓤) (A : Atoms 𝓤) (W : Given
         assigns ! (bin ! (load ! (from ! (stop !)) (look ! 16 refl)) (lit ! tt) tt) (from ! (stop !)) (init ! 12 refl (tt, tt)) $
         guards ! (load ! (from ! (stop !)) (look ! 12 refl))
         (λ held.
-        assigns ! (agg ! (and-then ! (lit ! tt) (and-then ! (lit ! tt) (no-more !)))) (from ! (stop !)) (init ! 24 refl (listed-typed 𝓤 H A W (Refused (2 ^ 8 - 250)) (is-refused (2 ^ 8 - 250) (lit< tt)))) $
+        assigns ! (agg ! (and-then ! (lit ! tt) (and-then ! (lit ! tt) (no-more !)))) (from ! (stop !)) (init ! 24 refl (listed-typed 𝓤 H A W (Refused (2 ^ 8 - 250)) (EL.owes Listed-t.the-type Listed-l.the-laws (Refused (2 ^ 8 - 250)) ((refl, lit< tt), tt)))) $
         returns-within ! Post refl (look ! 24 refl) $ out ! 24 refl refl $ out ! 22 refl refl $ out ! 20 refl refl $ out ! 18 refl refl $ out ! 16 refl refl $ out-room ! 14 refl refl $ out ! 12 refl refl $ out-room ! 10 refl refl $ out-room ! 8 refl refl $ out-room ! 6 refl refl $ out-room ! 4 refl refl $ free0 ! $
-        keep ! (0 ∷ 1 ∷ 2 ∷ 3 ∷ []) $ by ! (exits (Refused (2 ^ 8 - 250)) output (lists-count (λ same. eqb-false r-slot-count 64 (not-true (eqb r-slot-count 64) (holds-true (not (eqb r-slot-count 64)) held)) (e-slot-count ∙ same))) refl (is-refused (2 ^ 8 - 250) (lit< tt))))
+        keep ! (0 ∷ 1 ∷ 2 ∷ 3 ∷ []) $ by ! (exits (Refused (2 ^ 8 - 250)) output (lists-count (λ same. eqb-false r-slot-count 64 (not-true (eqb r-slot-count 64) (holds-true (not (eqb r-slot-count 64)) held)) (e-slot-count ∙ same))) refl (EL.owes Listed-t.the-type Listed-l.the-laws (Refused (2 ^ 8 - 250)) ((refl, lit< tt), tt))))
         (λ failed.
         let same : length slots ≡ 64 = sym e-slot-count ∙ eqb-true r-slot-count 64 (not-false (eqb r-slot-count 64) (fails-false (not (eqb r-slot-count 64)) failed)) in
         -- `text_size`
@@ -99,9 +101,9 @@ module _ {M : Type 1} (𝓤 : URA M) (H : Heap 𝓤) (A : Atoms 𝓤) (W : Given
         assigns ! (bin ! (load ! (from ! (stop !)) (look ! 10 refl)) (load ! (from ! (stop !)) (look ! 14 refl)) tt) (from ! (stop !)) (store ! 12 refl (tt, tt)) $
         guards ! (load ! (from ! (stop !)) (look ! 12 refl))
         (λ held.
-        assigns ! (agg ! (and-then ! (lit ! tt) (and-then ! (lit ! tt) (no-more !)))) (from ! (stop !)) (init ! 24 refl (listed-typed 𝓤 H A W (Refused (2 ^ 8 - 248)) (is-refused (2 ^ 8 - 248) (lit< tt)))) $
+        assigns ! (agg ! (and-then ! (lit ! tt) (and-then ! (lit ! tt) (no-more !)))) (from ! (stop !)) (init ! 24 refl (listed-typed 𝓤 H A W (Refused (2 ^ 8 - 248)) (EL.owes Listed-t.the-type Listed-l.the-laws (Refused (2 ^ 8 - 248)) ((refl, lit< tt), tt)))) $
         returns-within ! Post refl (look ! 24 refl) $ out ! 24 refl refl $ out ! 22 refl refl $ out ! 20 refl refl $ out ! 18 refl refl $ out ! 16 refl refl $ out ! 14 refl refl $ out ! 12 refl refl $ out ! 10 refl refl $ out-room ! 8 refl refl $ out-room ! 6 refl refl $ out-room ! 4 refl refl $ free0 ! $
-        keep ! (0 ∷ 1 ∷ 2 ∷ 3 ∷ []) $ by ! (exits (Refused (2 ^ 8 - 248)) output (lists-short same e-text-size (ltb→lt (length output) r-text-size held)) refl (is-refused (2 ^ 8 - 248) (lit< tt))))
+        keep ! (0 ∷ 1 ∷ 2 ∷ 3 ∷ []) $ by ! (exits (Refused (2 ^ 8 - 248)) output (lists-short same e-text-size (ltb→lt (length output) r-text-size held)) refl (EL.owes Listed-t.the-type Listed-l.the-laws (Refused (2 ^ 8 - 248)) ((refl, lit< tt), tt))))
         (λ failed.
         let fits : r-text-size ≤ length output = nltb→le (length output) r-text-size failed in
         assigns ! (addr ! (from ! (fld ! refl (hop ! (look-in ! 18 (sub ! 0 refl (whole !))) (stop !))))) (from ! (stop !)) (init ! 6 refl (tt, tt)) $
@@ -111,9 +113,9 @@ module _ {M : Type 1} (𝓤 : URA M) (H : Heap 𝓤) (A : Atoms 𝓤) (W : Given
         move ! (2 ∷ 3 ∷ []) $
         calls-both ! fm Slot-t.the-row u8 unit-row (write-lines.clauses 𝓤 H A mem run) (λ r zs. _) (named 0) (a .0 .ptr .0) (a .0 .ptr .1) slots (sliceVal (a .0 .ptr) (length slots)) (named 1) (a .1 .1 .0 .ptr .0) (a .1 .1 .0 .ptr .1) output (sliceVal (a .1 .1 .0 .ptr) (length output)) (λ ν. (clock, tt)) (λ ν. (uint-row w64, tt)) (λ ν δ. tt) known-write-lines (λ ν. ((refl, g-clock), tt)) (λ ν δ. (shown 𝓤 H A (subst (λ (m : ℕ). m ≤ length output) e-text-size fits))) (λ ν δ r ws. id⊢ 𝓤 _)
         (λ ν δ. (and-then ! (load ! (from ! (stop !)) (look ! 22 refl)) (and-then ! (load ! (from ! (stop !)) (look ! 4 refl)) (and-then ! (load ! (from ! (stop !)) (look ! 20 refl)) (no-more !))))) (λ r-write-lines zs-write-lines l-write-lines is-write-lines e-write-lines. land ! (from ! (stop !)) (init ! 8 refl (tt, tt)) $
-        assigns ! (agg ! (and-then ! (lit ! tt) (and-then ! (load ! (from ! (stop !)) (look ! 14 refl)) (no-more !)))) (from ! (stop !)) (init ! 24 refl (listed-typed 𝓤 H A W (Length r-text-size) (is-length r-text-size (is-text-size .1)))) $
+        assigns ! (agg ! (and-then ! (lit ! tt) (and-then ! (load ! (from ! (stop !)) (look ! 14 refl)) (no-more !)))) (from ! (stop !)) (init ! 24 refl (listed-typed 𝓤 H A W (Length r-text-size) (EL.owes Listed-t.the-type Listed-l.the-laws (Length r-text-size) ((refl, is-text-size .1), tt)))) $
         returns ! (look ! 24 refl) $ out ! 24 refl refl $ out ! 22 refl refl $ out ! 20 refl refl $ out ! 18 refl refl $ out ! 16 refl refl $ out ! 14 refl refl $ out ! 12 refl refl $ out ! 10 refl refl $ out ! 8 refl refl $ out ! 6 refl refl $ out ! 4 refl refl $ free0 ! $
-        keep ! (0 ∷ 1 ∷ 2 ∷ 3 ∷ []) $ by ! (exits (Length r-text-size) zs-write-lines (lists-whole same e-text-size fits e-write-lines) l-write-lines (is-length r-text-size (is-text-size .1)))))))))))))))))))
+        keep ! (0 ∷ 1 ∷ 2 ∷ 3 ∷ []) $ by ! (exits (Length r-text-size) zs-write-lines (lists-whole same e-text-size fits e-write-lines) l-write-lines (EL.owes Listed-t.the-type Listed-l.the-laws (Length r-text-size) ((refl, is-text-size .1), tt)))))))))))))))))))
 
 pub list-spec : {M : Type 1} → stated.statement M
 unfolding code.routine

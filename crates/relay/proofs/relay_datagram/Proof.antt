@@ -3,7 +3,8 @@ use Rattle.walk.proofs.Pre.{ℕ, _-_, ftrue, flft, SProp, ent, emp, via, fst∗
 use Rattle.walk.proofs.Walk.{uint-row, bool-row, ref, shown, asks-none, Of, tokens, calls-any, calls-value, out, out-room, guards, holds-true, fails-false, framed-calls, finish}
 use Rattle.walk.proofs.Lends.{lend-slice, back-slice, copy-slice, calls-shared}
 use Rattle.walk.proofs.Whole.{val-look, val-shut}
-use Rattle.relay.proofs.Rows.{call-row, call-typed, fromclient-row, fromclient-typed, outcome-row, outcome-typed, is-refused}
+use denote.Enum.Laws as EL
+use Rattle.relay.proofs.Rows.{call-row, call-typed, fromclient-row, fromclient-typed, outcome-row, outcome-typed}
 use Rattle.relay.specs.declared.calls.Call.{Call}
 use Rattle.relay.proofs.calls.Call as Call-t
 use Rattle.relay.specs.declared.calls.FromClient.{FromClient}
@@ -11,6 +12,7 @@ use Rattle.relay.proofs.calls.FromClient as FromClient-t
 use Rattle.rules.specs.declared.answer.Outcome.{Outcome}
 use Rattle.rules.specs.declared.answer.Outcome.the-variants.{Refused}
 use Rattle.rules.proofs.answer.Outcome as Outcome-t
+use Rattle.rules.proofs.answer.Outcome.Laws as Outcome-l
 use Rattle.table.specs.declared.Slot.{Slot}
 use Rattle.table.proofs.Slot as Slot-t
 use Rattle.relay.proofs.calls.refusal as refusal
@@ -128,9 +130,9 @@ module _ {M : Type 1} (𝓤 : URA M) (H : Heap 𝓤) (A : Atoms 𝓤) (W : Given
         assigns ! (bin ! (load ! (from ! (stop !)) (look ! 38 refl)) (lit ! tt) tt) (from ! (stop !)) (init ! 28 refl (tt, tt)) $
         guards ! (load ! (from ! (stop !)) (look ! 28 refl))
         (λ held.
-        assigns ! (agg ! (and-then ! (lit ! tt) (and-then ! (load ! (from ! (stop !)) (look ! 38 refl)) (no-more !)))) (from ! (stop !)) (init ! 50 refl (outcome-typed 𝓤 H A W (Refused r-refusal) (is-refused r-refusal (is-refusal .1)))) $
+        assigns ! (agg ! (and-then ! (lit ! tt) (and-then ! (load ! (from ! (stop !)) (look ! 38 refl)) (no-more !)))) (from ! (stop !)) (init ! 50 refl (outcome-typed 𝓤 H A W (Refused r-refusal) (EL.owes Outcome-t.the-type Outcome-l.the-laws (Refused r-refusal) ((refl, is-refusal .1), tt)))) $
         returns-within ! Post refl (look ! 50 refl) $ out ! 50 refl refl $ out ! 48 refl refl $ out ! 46 refl refl $ out ! 44 refl refl $ out ! 42 refl refl $ out ! 40 refl refl $ out ! 38 refl refl $ out ! 36 refl refl $ out ! 34 refl refl $ out ! 32 refl refl $ out ! 30 refl refl $ out ! 28 refl refl $ out-room ! 26 refl refl $ out-room ! 24 refl refl $ out-room ! 22 refl refl $ out-room ! 20 refl refl $ out-room ! 18 refl refl $ out-room ! 16 refl refl $ out-room ! 14 refl refl $ out-room ! 12 refl refl $ out-room ! 10 refl refl $ out-room ! 8 refl refl $ free0 ! $
-        keep ! (2 ∷ 3 ∷ 0 ∷ 1 ∷ 4 ∷ 5 ∷ 6 ∷ 7 ∷ []) $ by ! (exits (Refused r-refusal) slots now-clock reply (refused-step now-clock slots call datagram reply e-refusal (holds-true _ held)) refl refl (is-refused r-refusal (is-refusal .1))))
+        keep ! (2 ∷ 3 ∷ 0 ∷ 1 ∷ 4 ∷ 5 ∷ 6 ∷ 7 ∷ []) $ by ! (exits (Refused r-refusal) slots now-clock reply (refused-step now-clock slots call datagram reply e-refusal (holds-true _ held)) refl refl (EL.owes Outcome-t.the-type Outcome-l.the-laws (Refused r-refusal) ((refl, is-refusal .1), tt))))
         (λ failed.
         let none = accepts now-clock (length slots) (length datagram) (length reply) call e-refusal (fails-false _ failed) in
         let accepted = not-refused now-clock slots datagram reply call none in

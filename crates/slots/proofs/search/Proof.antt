@@ -2,7 +2,8 @@
 use Rattle.walk.proofs.Pre.{ℕ, _<_, _^_, _+_, _-_, ftrue, fat, flft, froom, fdies, SProp, ent, emp, via, fst∗, id⊢, Lfts, Shares, Fun, givenOf, tables, tablesOf, u64, yes, Is, pointee, uint-vals, uint-tells, owns, plain, sliceVal, Room, slice-vals, ShrSlice, shr-slice-tells, sliceTy, owned, nothing, onEntry, Args, Vals, Triple, cited, says, Stays, stay-none, walkOf, goes-none, ends-at, walked, stay-none-slice, goes-none-slice, Atoms, fullShare, URA, lit<, ltb→lt, nltb→le, length, [], _∷_, List, refl, _≡_, _∙_, ap, named, w64, imm, tyInt, tyBool, tyRef, Val, vint, Memory, Routine, Heap, WpFn, Tables, FmC, Given, ‵, _⊛_, ⋆, _$_, _∵_, !, qed, by, move, drop, split, join, fsplit, fjoin, suffices, frame, done, keep, Item, whole, sub, look-in, agg, look, init, forget, stop, fld, from, load, lit, of-opd, bin, assigns, returns, enter, alloc1, alloc0, params1, pass1, pass0, free0, store, and-then, no-more, assigns-last, land}
 use Rattle.walk.proofs.Walk.{uint-row, bool-row, ref, shown, asks-none, Of, tokens, calls-value, out, out-room, next-fits, falls, whiles, tests, guards, holds-true, fails-false, framed-calls, finish}
 use Rattle.walk.proofs.Lends.{calls-shared}
-use Rattle.slots.proofs.Rows.{allocation-row, allocation-typed, key-row, key-typed, found-row, found-typed, is-at, is-nothing}
+use denote.Enum.Laws as EL
+use Rattle.slots.proofs.Rows.{allocation-row, allocation-typed, key-row, key-typed, found-row, found-typed}
 use Rattle.table.specs.declared.Allocation.{Allocation}
 use Rattle.table.proofs.Allocation.Laws as Allocation-l
 use Rattle.table.specs.declared.Found.{Found}
@@ -104,17 +105,17 @@ module _ {M : Type 1} (𝓤 : URA M) (H : Heap 𝓤) (A : Atoms 𝓤) (W : Given
         (and-then ! (load ! (from ! (stop !)) (look ! 15 refl)) (and-then ! (load ! (from ! (stop !)) (look ! 13 refl)) (and-then ! (load ! (from ! (stop !)) (look ! 9 refl)) (no-more !)))) (λ r-matches is-matches e-matches. land ! (from ! (stop !)) (init ! 2 refl (tt, tt)) $
         guards ! (load ! (from ! (stop !)) (look ! 2 refl))
         (λ held.
-        assigns ! (agg ! (and-then ! (lit ! tt) (and-then ! (load ! (from ! (stop !)) (look ! 10 refl)) (no-more !)))) (from ! (stop !)) (init ! 18 refl (found-typed 𝓤 H A W (At (x .0)) (is-at (x .0) (x .1 .0)))) $
+        assigns ! (agg ! (and-then ! (lit ! tt) (and-then ! (load ! (from ! (stop !)) (look ! 10 refl)) (no-more !)))) (from ! (stop !)) (init ! 18 refl (found-typed 𝓤 H A W (At (x .0)) (EL.owes Found-t.the-type Found-l.the-laws (At (x .0)) ((refl, (x .1 .0)), tt)))) $
         back _ _ (returns ! (look ! 18 refl) $ out ! 18 refl refl $ out ! 16 refl refl $ out ! 14 refl refl $ out ! 12 refl refl $ out ! 10 refl refl $ out ! 8 refl refl $ out ! 6 refl refl $ out ! 4 refl refl $ out ! 2 refl refl $ free0 ! $
-        keep ! (0 ∷ 1 ∷ []) $ by ! (exits (At (x .0)) (find-at (x .1 .1) within (e-matches ∙ ap (keyed time key) e-allocation-at) (holds-true r-matches held)) (is-at (x .0) (x .1 .0)))))
+        keep ! (0 ∷ 1 ∷ []) $ by ! (exits (At (x .0)) (find-at (x .1 .1) within (e-matches ∙ ap (keyed time key) e-allocation-at) (holds-true r-matches held)) (EL.owes Found-t.the-type Found-l.the-laws (At (x .0)) ((refl, (x .1 .0)), tt)))))
         (λ failed.
         assigns-last ! (bin ! (load ! (from ! (stop !)) (look ! 10 refl)) (lit ! tt) (record { fits = fits′ })) (from ! (stop !)) (store ! 10 refl (tt, record { fits = fits′ })) $
         forget ! 2 refl $ forget ! 4 refl $ forget ! 6 refl $ forget ! 8 refl $
         again (((x .0) + 1), (fits′, (one-more (x .1 .1) (e-matches ∙ ap (keyed time key) e-allocation-at) (fails-false r-matches failed)))) (falls (length slots) (x .0) within)))))
         (λ over. leave _ (
-        assigns ! (agg ! (and-then ! (lit ! tt) (no-more !))) (from ! (stop !)) (init ! 18 refl (found-typed 𝓤 H A W Nothing is-nothing)) $
+        assigns ! (agg ! (and-then ! (lit ! tt) (no-more !))) (from ! (stop !)) (init ! 18 refl (found-typed 𝓤 H A W Nothing (EL.owes Found-t.the-type Found-l.the-laws Nothing tt))) $
         returns ! (look ! 18 refl) $ out ! 18 refl refl $ out ! 16 refl refl $ out ! 14 refl refl $ out ! 12 refl refl $ out ! 10 refl refl $ out-room ! 8 refl refl $ out ! 6 refl refl $ out ! 4 refl refl $ out-room ! 2 refl refl $ free0 ! $
-        keep ! (0 ∷ 1 ∷ []) $ by ! (exits Nothing (find-past (x .1 .1) (nltb→le (x .0) (length slots) over)) is-nothing))))
+        keep ! (0 ∷ 1 ∷ []) $ by ! (exits Nothing (find-past (x .1 .1) (nltb→le (x .0) (length slots) over)) (EL.owes Found-t.the-type Found-l.the-laws Nothing tt)))))
         (0, (lit< tt, from-none)))))))))))
 
 pub search-spec : {M : Type 1} → stated.statement M
