@@ -31,26 +31,37 @@ def put_together(walk, k, operands):
     """The value of a struct or an enum that is made of operands."""
     type_ = walk.types[k]
     variants = source.variants(type_)
-    if variants:
-        variant = variants[int(operands[0][2])]
-        maker, operands = variant, operands[1:]
-        walk.made.setdefault(type_, set()).add(variant)
-    else:
-        maker = type_.low
+    if not variants:
+        return struct_made(walk, k, operands)
+    variant = variants[int(operands[0][2])]
+    walk.made.setdefault(type_, set()).add(variant)
+    text = applied(variant, [walk.value(operand).text for operand in operands[1:]])
+    return Value(text, made_fact(walk, type_, text, operands[1:]))
+
+
+def struct_made(walk, k, operands):
+    """A struct is made by a function of its name in a Rows file, or the answers say what it is."""
+    type_, name = walk.types[k], 'value.' + walk.local_name(k)
     values = [walk.value(operand) for operand in operands]
-    name = 'value.' + walk.local_name(k)
-    if walk.answers.has(name) or not (variants or maker in walk.rows):
+    texts, facts = [value.text for value in values], [value.fact for value in values]
+    if type_.low in walk.rows and not walk.answers.has(name):
+        walk.makers.add(type_.low)
+        text = applied(type_.low, texts)
+    else:
         text = walk.ask(name)
-    else:
-        text = ' '.join([maker] + [atom(value.text) for value in values])
-        walk.makers.add(maker)
-    known = 'is-' + (variant.lower() if variants else maker)
-    if known in walk.rows:
-        fact = ' '.join([known] + [atom(value.text) for value in values] + [atom(value.fact) for value in values])
-    else:
-        facts = [walk.operand_type(operand).shown(value) for operand, value in zip(operands, values)]
-        fact = '%s %s %s' % (laws(type_, 'owes'), atom(text), tupled(facts))
-    return Value(text, fact)
+    if 'is-' + type_.low in walk.rows:
+        return Value(text, applied('is-' + type_.low, texts + facts))
+    return Value(text, made_fact(walk, type_, text, operands))
+
+
+def applied(name, arguments):
+    return ' '.join([name] + [atom(argument) for argument in arguments])
+
+
+def made_fact(walk, type_, text, operands):
+    """That the machine holds what was put together, from the facts of its parts."""
+    facts = [walk.operand_type(operand).shown(walk.value(operand)) for operand in operands]
+    return '%s %s %s' % (laws(type_, 'owes'), atom(text), tupled(facts))
 
 
 def overwritten(type_, value, number, new, of, text):
