@@ -2,7 +2,6 @@
 use address::Address;
 use address::Peer;
 use client_reader::Message;
-use client_reader::data_of;
 use client_reader::read_message;
 use libc::STDOUT_FILENO;
 use relay::sending::what_to_send;
@@ -152,9 +151,9 @@ pub(crate) fn write_message(s: &[u8]) {
             port,
             start,
             len,
-        } => write_indication(peer, port, data_of(s, start, len)),
+        } => write_indication(peer, port, wire::part(s, start, len)),
         Message::ChannelData { number, start, len } => {
-            write_channel_data(number, data_of(s, start, len))
+            write_channel_data(number, wire::part(s, start, len))
         }
         Message::Nothing => write(b"none"),
     }

@@ -1,8 +1,8 @@
 use mathlib.Core.Path.{ap}
 use mathlib.Core.List.{[], _∷_}
 use native.Mathlib.Omega.{arith}
-use Rattle.text.specs.Text.{decimal}
-use Rattle.listing.specs.Listing.{addressText, fieldText}
+use Rattle.text.specs.Text.{decimal, addressText}
+use Rattle.listing.specs.Listing.{fieldText}
 use Rattle.listing.proofs.Laws.{room-first, room-as, put-none, put-room, put-then, put-as}
 use borrow.Author.Needs.{needs}
 use Rattle.listing.proofs.puts.put_field.Statement.{statement}

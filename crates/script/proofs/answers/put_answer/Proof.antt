@@ -1,5 +1,6 @@
 use mathlib.Core.Path.{refl}
-use Rattle.script.specs.Answers.{line, sentTo, answerOf}
+use Rattle.text.specs.Text.{line}
+use Rattle.script.specs.Answers.{sentTo, answerOf}
 use Rattle.script.proofs.Written.{sent-then}
 use borrow.Author.Needs.{needs}
 use Rattle.script.proofs.answers.put_answer.Statement.{statement}
