@@ -59,7 +59,7 @@ pub fn put_decimal(out: &mut [u8], n: u64) -> usize
     size
 }
 
-pub fn put_hex_word(out: &mut [u8], n: u32)
+pub(crate) fn put_hex_word(out: &mut [u8], n: u32)
     requires { ⌜ 8 ≤ length (now out) ⌝ }
     ensures { λ _. ⌜ Wrote (hexWord n) (now (out .entry)) (now (out .exit)) ⌝ }
 {

@@ -44,7 +44,7 @@ pub fn part(s: &[u8], start: usize, len: usize) -> &[u8]
 
 // ---- Written
 
-pub fn put_u8(out: &mut [u8], n: u8)
+pub(crate) fn put_u8(out: &mut [u8], n: u8)
     requires { ⌜ 1 ≤ length (now out) ⌝ }
     ensures { λ _. ⌜ Wrote (bytesOf 1 n) (now (out .entry)) (now (out .exit)) ⌝ }
 {

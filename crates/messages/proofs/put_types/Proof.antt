@@ -35,16 +35,5 @@ returns c = let e : c .before .before .before .args .count ≡ c .before .loop .
 pub put-types-spec : {M : Type 1} → statement M
 put-types-spec =
     tie.close
-    (tie.spec
-    Inv-loop
-    μ-loop
-    loop-holds
-    (λ c. search needs)
-    (λ c. search needs)
-    (λ c. search needs)
-    put-u16-at-requires
-    (λ c. search needs)
-    (λ c. search needs)
-    loop-again
-    same-length
-    returns)
+    (tie.spec Inv-loop μ-loop loop-holds (λ c. search needs) (λ c. search needs) (λ c. search needs) put-u16-at-requires
+    (λ c. search needs) (λ c. search needs) loop-again same-length returns)

@@ -17,12 +17,5 @@ returns-2 c = rw (sym (c .before .permission-is-live .ensures) ∙ c .if1 .left)
 pub permission-fields-spec : {M : Type 1} → statement M
 permission-fields-spec =
     tie.close
-    (tie.spec
-    (λ c. search needs)
-    (λ c. search needs)
-    (λ c. search needs)
-    (λ c. search needs)
-    (λ c. search needs)
-    (λ c. search needs)
-    returns
-    returns-2)
+    (tie.spec (λ c. search needs) (λ c. search needs) (λ c. search needs) (λ c. search needs) (λ c. search needs) (λ c. search needs)
+    returns returns-2)

@@ -34,15 +34,5 @@ returns-2 c = ask-end (c .before .before .before .loop .inv) (c .before .before 
 pub any-faulty-spec : {M : Type 1} → statement M
 any-faulty-spec =
     tie.close
-    (tie.spec
-    Inv-loop
-    μ-loop
-    loop-holds
-    (λ c. search needs)
-    (λ c. search needs)
-    (λ c. search needs)
-    returns
-    loop-less
-    loop-again
-    (λ c. search needs)
-    returns-2)
+    (tie.spec Inv-loop μ-loop loop-holds (λ c. search needs) (λ c. search needs) (λ c. search needs) returns loop-less loop-again
+    (λ c. search needs) returns-2)

@@ -15,10 +15,4 @@ returns-2 c = rw (no-peer-left (c .before .before .before .next-peer .ensures) (
 pub first-peer-spec : {M : Type 1} → statement M
 first-peer-spec =
     tie.close
-    (tie.spec
-    (λ c. search needs)
-    (λ c. search needs)
-    (λ c. search needs)
-    (λ c. search needs)
-    returns
-    returns-2)
+    (tie.spec (λ c. search needs) (λ c. search needs) (λ c. search needs) (λ c. search needs) returns returns-2)
