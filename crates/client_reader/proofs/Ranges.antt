@@ -24,7 +24,8 @@ use Rattle.client_reader.proofs.Around.{num-lt}
 use Rattle.client_reader.proofs.Types.{length-types-from, all-below}
 use Rattle.client_reader.specs.declared.ReadMessage.{ReadMessage}
 use Rattle.client_reader.specs.Fields.{Bytes, IdFits, AddressFits, TypesInRange, DataInRange, InRange}
-use Rattle.client_reader.specs.Reader.{when, fieldsOf, allocateFields, refreshFields, bareFields, typesFrom, typesOf, allBelow, countFits, unknownFields, codeOf, plainErrorFields, errorFields, dataFits, indicationFields, channelFields, isChannel, stunFields}
+use Rattle.table.specs.Table.{isChannelNumber}
+use Rattle.client_reader.specs.Reader.{when, fieldsOf, allocateFields, refreshFields, bareFields, typesFrom, typesOf, allBelow, countFits, unknownFields, codeOf, plainErrorFields, errorFields, dataFits, indicationFields, channelFields, stunFields}
 
 module _ (s : List ℕ) (h : Bytes s) where
   abbrev Fits : ReadMessage → Type 0
@@ -82,8 +83,8 @@ module _ (s : List ℕ) (h : Bytes s) where
       when-fits (dataFits 36 (num s 34 2) s) _ (λ t.
       (id-fits, xor-fits 28 4 0x2112_a442 (lit< tt), xor-fits 26 2 0x2112 (lit< tt), data-in 36 (num s 34 2) t, refl)))
 
-  channel-fits : isChannel (num s 0 2) ≡ true → Fits (channelFields s)
-  unfolding channelFields
+  channel-fits : isChannelNumber (num s 0 2) ≡ true → Fits (channelFields s)
+  unfolding isChannelNumber channelFields
   channel-fits c =
       when-fits (dataFits 4 (num s 2 2) s) _ (λ t.
       let p = both-parts _ _ c in (leb-true _ _ (p .0), leb-true _ _ (p .1), data-in 4 (num s 2 2) t, refl))
@@ -136,8 +137,8 @@ module _ (s : List ℕ) (h : Bytes s) where
 
   pub in-range : InRange (fieldsOf s) s
   unfolding fieldsOf
-  in-range = when-fits (leb 4 (length s)) _ (λ t. go (isChannel (num s 0 2)) refl)
+  in-range = when-fits (leb 4 (length s)) _ (λ t. go (isChannelNumber (num s 0 2)) refl)
     where
-      go : (b : Bool) → isChannel (num s 0 2) ≡ b → Fits (pick b (channelFields s) (when (leb 20 (length s)) (stunFields (messageKindOf (num s 0 2)) s)))
+      go : (b : Bool) → isChannelNumber (num s 0 2) ≡ b → Fits (pick b (channelFields s) (when (leb 20 (length s)) (stunFields (messageKindOf (num s 0 2)) s)))
       go true c = channel-fits c
       go false c = when-fits (leb 20 (length s)) _ (λ t. stun-fits (messageKindOf (num s 0 2)))

@@ -11,12 +11,14 @@ use Rattle.stun.specs.declared.kinds.Method.{Method}
 use Rattle.stun.specs.declared.kinds.Method.the-variants.{Allocate, Refresh, CreatePermission, ChannelBind}
 use Rattle.stun.specs.declared.kinds.MessageKind.{MessageKind}
 use Rattle.stun.specs.declared.kinds.MessageKind.the-variants as Kind
-use Rattle.stun.specs.Kinds.{messageKindOf}
+use Rattle.stun.specs.AttributeNumbers as attribute
+use Rattle.stun.specs.Kinds.{cookie, cookieHigh, dataType, messageKindOf}
 use Rattle.stun.specs.Values.{transactionId, addressAt}
+use Rattle.table.specs.Table.{isChannelNumber}
 use Rattle.client_reader.specs.declared.Message.{Message}
 use Rattle.client_reader.specs.declared.Message.the-variants.{AllocateSuccess, RefreshSuccess, BareSuccess, Error, UnknownAttributes, DataIndication, ChannelData, Nothing}
 use Rattle.client_reader.specs.declared.ReadMessage.{ReadMessage}
-use Rattle.client_reader.specs.Fields.{part, noTypes, written}
+use Rattle.client_reader.specs.Fields.{noTypes, written}
 
 -- a message that carries no types
 abbrev pub plain : Message → ReadMessage
@@ -35,7 +37,7 @@ when test m = pick test m nothing
 unfoldable pub allocateFields : List ℕ → ReadMessage
 allocateFields s =
     when (leb 44 (length s))
-    (plain (AllocateSuccess (transactionId s) (bitXor (num s 28 4) 0x2112_a442) (bitXor (num s 26 2) 0x2112) (num s 36 4) (addressAt s 44 (length s - 44) .peer)))
+    (plain (AllocateSuccess (transactionId s) (bitXor (num s 28 4) cookie) (bitXor (num s 26 2) cookieHigh) (num s 36 4) (addressAt s 44 (length s - 44) .peer)))
 
 -- LIFETIME stands at 20
 unfoldable pub refreshFields : List ℕ → ReadMessage
@@ -90,7 +92,7 @@ dataFits start len s = both (leb len 1500) (leb (start + len) (length s))
 
 -- XOR-PEER-ADDRESS stands at 20, DATA at 32
 abbrev pub indicationOf : List ℕ → Message
-indicationOf s = DataIndication (transactionId s) (bitXor (num s 28 4) 0x2112_a442) (bitXor (num s 26 2) 0x2112) 36 (num s 34 2)
+indicationOf s = DataIndication (transactionId s) (bitXor (num s 28 4) cookie) (bitXor (num s 26 2) cookieHigh) 36 (num s 34 2)
 
 unfoldable pub indicationFields : List ℕ → ReadMessage
 indicationFields s = when (leb 36 (length s)) (when (dataFits 36 (num s 34 2) s) (plain (indicationOf s)))
@@ -113,13 +115,11 @@ stunFields Kind.DataIndication s = indicationFields s
 stunFields Kind.Other s = nothing
 
 -- 'channels 0x4000 to 0x4FFF'
-abbrev pub isChannel : ℕ → Bool
-isChannel number = both (leb 0x4000 number) (leb number 0x4fff)
-
 unfoldable pub fieldsOf : List ℕ → ReadMessage
+unfolding isChannelNumber
 fieldsOf s =
     when (leb 4 (length s))
-    (pick (isChannel (num s 0 2)) (channelFields s) (when (leb 20 (length s)) (stunFields (messageKindOf (num s 0 2)) s)))
+    (pick (isChannelNumber (num s 0 2)) (channelFields s) (when (leb 20 (length s)) (stunFields (messageKindOf (num s 0 2)) s)))
 
 -- ---- The reader
 
@@ -143,11 +143,5 @@ readOf s = checked (fieldsOf s) s
 -- and the family of its address
 unfoldable pub indicationHead : List ℕ → Bool
 indicationHead s =
-    both (eqb (num s 4 4) 0x2112_a442)
-    (both (both (eqb (num s 0 2) 0x0017) (eqb (num s 32 2) 0x0013)) (both (eqb (num s 20 2) 0x0012) (both (eqb (num s 22 2) 8) (eqb (num s 24 2) 1))))
-
--- ---- The data
-
--- 'the data as a place in the bytes'; the empty part where the place lies outside
-unfoldable pub dataOf : List ℕ → ℕ → ℕ → List ℕ
-dataOf s start len = pick (leb (start + len) (length s)) (part s start len) []
+    both (eqb (num s 4 4) cookie)
+    (both (both (eqb (num s 0 2) dataType) (eqb (num s 32 2) attribute.«data»)) (both (eqb (num s 20 2) attribute.xorPeerAddress) (both (eqb (num s 22 2) 8) (eqb (num s 24 2) 1))))

@@ -6,14 +6,14 @@ mod responses;
 
 use address::Peer;
 use address::TransactionId;
-use choice::both;
 use stun::kinds::MessageKind;
 use stun::kinds::Method;
+use table::channels::is_channel_number;
 use wire::u16_at;
 ghost use mathlib.Core.Path.{_≡_};
 ghost use Prim.Native.Nat.{_≤_};
 ghost use lib.ListN.{length};
-ghost use Rattle.client_reader.specs.Reader.{plain, nothing, when, checked, stunFields, isChannel, readOf, dataOf};
+ghost use Rattle.client_reader.specs.Reader.{plain, nothing, when, checked, stunFields, readOf};
 
 pub enum Message {
     AllocateSuccess {
@@ -44,7 +44,7 @@ pub enum Message {
         id: TransactionId,
         count: usize,
     },
-    // The data is the part of the bytes that starts at start and has len bytes.
+    // The data is the part of the bytes that starts at start and has len bytes (`wire::part`).
     DataIndication {
         id: TransactionId,
         peer: u32,
@@ -90,19 +90,6 @@ fn read_if(test: bool, read: ReadMessage) -> ReadMessage
     nothing()
 }
 
-// The data of a message, at its place in the lent bytes; the empty part where the place lies outside.
-pub fn data_of(s: &[u8], start: usize, len: usize) -> &[u8]
-    ensures { λ r. ⌜ now r ≡ dataOf (now (s .entry)) start len ⌝ }
-{
-    if s.len() < start {
-        return &s[..0];
-    }
-    if s.len() - start < len {
-        return &s[..0];
-    }
-    &s[start..start + len]
-}
-
 fn stun_message(s: &[u8], kind: MessageKind) -> ReadMessage
     requires { ⌜ 20 ≤ length (now s) ⌝ }
     ensures { λ r. ⌜ r ≡ checked (stunFields kind (now (s .entry))) (now (s .entry)) ⌝ }
@@ -117,12 +104,6 @@ fn stun_message(s: &[u8], kind: MessageKind) -> ReadMessage
     }
 }
 
-fn is_channel(number: u16) -> bool
-    ensures { λ r. ⌜ r ≡ isChannel number ⌝ }
-{
-    both(0x4000 <= number, number <= 0x4fff)
-}
-
 // The fields exactly where writing them makes the bytes; else Nothing.
 pub fn read_message(s: &[u8]) -> ReadMessage
     ensures { λ r. ⌜ r ≡ readOf (now (s .entry)) ⌝ }
@@ -131,10 +112,10 @@ pub fn read_message(s: &[u8]) -> ReadMessage
         return nothing();
     }
     let number = u16_at(s, 0);
-    if is_channel(number) {
+    if is_channel_number(number) {
         return data::channel_data(s);
     }
-    if s.len() < 20 {
+    if s.len() < stun::HEADER {
         return nothing();
     }
     stun_message(s, MessageKind::of(number))

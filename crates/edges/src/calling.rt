@@ -11,6 +11,7 @@ use crate::fields::stop;
 use crate::lent::sixty_five;
 use crate::lent::sixty_three;
 use crate::printing::write;
+use crate::printing::write_byte;
 use crate::printing::write_number;
 use crate::printing::write_outcome;
 use address::Address;
@@ -60,7 +61,7 @@ pub(crate) fn write_name(line: &[u8]) {
     let from = field_start(line, 1);
     let to = stop(line, from, TAB);
     write(&line[from..to]);
-    write(b":");
+    write_byte(b':');
 }
 
 // Whether a line has a name; one without prepares a case.
@@ -97,13 +98,13 @@ fn write_case<'a>(line: &[u8], after: Held, datagram: &'a [u8], reply: &'a [u8])
     }
     let outcome = after.outcome;
     write_name(line);
-    write(b" ");
+    write_byte(b' ');
     write_outcome(outcome, datagram, reply);
     write_number(b", clock ", after.clock);
     if !is_untouched(reply, written(outcome)) {
         write(b", the rest of the reply has changed");
     }
-    write(b"\n");
+    write_byte(b'\n');
 }
 
 // The entry over a fresh table that has not 64 slots.

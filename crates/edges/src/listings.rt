@@ -6,7 +6,9 @@ use crate::fields::number;
 use crate::lent::list_held;
 use crate::lent::list_sixty_three;
 use crate::printing::write;
-use crate::printing::write_number;
+use crate::printing::write_byte;
+use crate::printing::write_count;
+use crate::printing::write_lettered;
 use listing::Listed;
 use relay::Held;
 use table::fresh_slot;
@@ -32,8 +34,8 @@ fn within(held: Held, slots: usize, output: &mut [u8], room: usize) -> Listed {
 
 // How long the listing is, and its lines.
 fn write_lines(output: &[u8], len: usize) {
-    write_number(b" ", len as u64);
-    write(b" bytes\n");
+    write_count(len);
+    write_byte(b'\n');
     if len <= output.len() {
         write(&output[0..len]);
     }
@@ -45,8 +47,9 @@ fn write_lines(output: &[u8], len: usize) {
 fn write_listed(listed: Listed, output: &[u8]) {
     match listed {
         Listed::Refused(number) => {
-            write_number(b" R ", number as u64);
-            write(b"\n");
+            write_byte(b' ');
+            write_lettered(b'R', number as u64);
+            write_byte(b'\n');
         }
         Listed::Length(len) => write_lines(output, len),
     }

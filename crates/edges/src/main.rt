@@ -61,39 +61,28 @@ fn show(held: Held, slots: usize, line: &[u8]) {
 
 // `K` keeps the relay as it is, `B` goes back to it, `W` sets what calls bring besides.
 fn after(state: State, line: &[u8]) -> State {
+    let mut next = state;
     let held = state.held;
-    let kept = state.kept;
-    let setting = state.setting;
-    let letter = fields::letter(line);
-    if letter == b'K' {
-        return State {
-            held,
-            kept: held,
-            setting,
-        };
+    match fields::letter(line) {
+        b'K' => {
+            next.kept = held;
+        }
+        b'B' => {
+            let kept = state.kept;
+            next.held = kept;
+        }
+        b'W' => {
+            let setting = calling::read_setting(line);
+            next.setting = setting;
+        }
+        _ => {
+            let setting = state.setting;
+            show(held, setting.slots, line);
+            let made = changed(held, setting, line);
+            next.held = made;
+        }
     }
-    if letter == b'B' {
-        return State {
-            held: kept,
-            kept,
-            setting,
-        };
-    }
-    if letter == b'W' {
-        let setting = calling::read_setting(line);
-        return State {
-            held,
-            kept,
-            setting,
-        };
-    }
-    show(held, setting.slots, line);
-    let held = changed(held, setting, line);
-    State {
-        held,
-        kept,
-        setting,
-    }
+    next
 }
 
 fn run(text: &[u8]) {

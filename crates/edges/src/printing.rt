@@ -2,7 +2,6 @@
 use address::Address;
 use address::Peer;
 use client_reader::Message;
-use client_reader::data_of;
 use client_reader::read_message;
 use libc::STDOUT_FILENO;
 use relay::sending::what_to_send;
@@ -13,9 +12,32 @@ pub(crate) fn write(text: &[u8]) {
     io::write_all(STDOUT_FILENO, text);
 }
 
+pub(crate) fn write_byte(b: u8) {
+    let text = [b];
+    write(&text);
+}
+
+fn write_decimal(n: u64) {
+    io::print_decimal(STDOUT_FILENO, n);
+}
+
 pub(crate) fn write_number(text: &[u8], n: u64) {
     write(text);
-    io::print_decimal(STDOUT_FILENO, n);
+    write_decimal(n);
+}
+
+// A letter, a blank and the number that belongs to it.
+pub(crate) fn write_lettered(letter: u8, n: u64) {
+    write_byte(letter);
+    write_byte(b' ');
+    write_decimal(n);
+}
+
+// A blank, and how many bytes there are.
+pub(crate) fn write_count(len: usize) {
+    write_byte(b' ');
+    write_decimal(len as u64);
+    write(b" bytes");
 }
 
 fn write_word(n: u32) {
@@ -36,11 +58,13 @@ pub(crate) fn write_address(address: Address) {
     }
 }
 
-pub(crate) fn write_peer(text: &[u8], peer: Peer) {
-    write(text);
+// A blank, the address, a blank and the port.
+pub(crate) fn write_peer(peer: Peer) {
+    write_byte(b' ');
     let address = peer.address;
     write_address(address);
-    write_number(b" ", peer.port as u64);
+    write_byte(b' ');
+    write_decimal(peer.port as u64);
 }
 
 fn byte(b: u8) -> u64 {
@@ -53,15 +77,14 @@ pub(crate) fn write_hex(s: &[u8]) {
     }
 }
 
-// How many bytes there are, and the bytes: of more than eight the first two and the last two.
+// A blank, how many bytes there are, and the bytes: of more than eight the first two and the last two.
 pub(crate) fn write_data(s: &[u8]) {
     let len = s.len();
-    write_number(b"", len as u64);
-    write(b" bytes");
+    write_count(len);
     if len == 0 {
         return;
     }
-    write(b" ");
+    write_byte(b' ');
     if len <= 8 {
         write_hex(s);
         return;
@@ -84,7 +107,8 @@ fn write_method(method: Method) {
 fn write_allocated(port: u16, seconds: u32, client: Peer) {
     write_number(b"Allocate success, port ", port as u64);
     write_number(b", seconds ", seconds as u64);
-    write_peer(b", client ", client);
+    write(b", client");
+    write_peer(client);
 }
 
 fn write_error(method: Method, code: u16) {
@@ -101,15 +125,16 @@ fn write_unknown(count: usize, types: [u16; 16]) {
 
 fn write_indication(peer: u32, port: u16, data: &[u8]) {
     let address = Address::V4(peer);
-    write_peer(b"Data indication from ", Peer { address, port });
-    write(b", ");
+    write(b"Data indication from");
+    write_peer(Peer { address, port });
+    write_byte(b',');
     write_data(data);
 }
 
 fn write_channel_data(number: u16, data: &[u8]) {
     write(b"ChannelData ");
     io::print_hex(STDOUT_FILENO, number as u64, 4);
-    write(b", ");
+    write_byte(b',');
     write_data(data);
 }
 
@@ -152,9 +177,9 @@ pub(crate) fn write_message(s: &[u8]) {
             port,
             start,
             len,
-        } => write_indication(peer, port, data_of(s, start, len)),
+        } => write_indication(peer, port, wire::part(s, start, len)),
         Message::ChannelData { number, start, len } => {
-            write_channel_data(number, data_of(s, start, len))
+            write_channel_data(number, wire::part(s, start, len))
         }
         Message::Nothing => write(b"none"),
     }
@@ -163,12 +188,14 @@ pub(crate) fn write_message(s: &[u8]) {
 // `R` a refusal, `D` a drop, `S` what goes to a client, `F` what goes to a peer.
 pub(crate) fn write_outcome<'a>(outcome: Outcome, datagram: &'a [u8], reply: &'a [u8]) {
     match outcome {
-        Outcome::Refused(number) => write_number(b"R ", number as u64),
-        Outcome::Dropped => write(b"D"),
+        Outcome::Refused(number) => write_lettered(b'R', number as u64),
+        Outcome::Dropped => write_byte(b'D'),
         Outcome::ToClient { five_tuple, len } => {
-            write_peer(b"S ", five_tuple.client);
-            write_number(b" ", len as u64);
-            write(b" bytes, ");
+            write_byte(b'S');
+            write_peer(five_tuple.client);
+            write_count(len);
+            write_byte(b',');
+            write_byte(b' ');
             write_message(what_to_send(outcome, datagram, reply));
         }
         Outcome::ToPeer {
@@ -177,9 +204,8 @@ pub(crate) fn write_outcome<'a>(outcome: Outcome, datagram: &'a [u8], reply: &'a
             start: _,
             len: _,
         } => {
-            write_number(b"F ", port as u64);
-            write_peer(b" ", peer);
-            write(b" ");
+            write_lettered(b'F', port as u64);
+            write_peer(peer);
             write_data(what_to_send(outcome, datagram, reply));
         }
     }
@@ -188,5 +214,5 @@ pub(crate) fn write_outcome<'a>(outcome: Outcome, datagram: &'a [u8], reply: &'a
 // A line of the cases, as it stands.
 pub(crate) fn write_line(line: &[u8]) {
     write(line);
-    write(b"\n");
+    write_byte(b'\n');
 }

@@ -4,7 +4,7 @@ use crate::calling::write_name;
 use crate::fields::bytes;
 use crate::fields::number;
 use crate::fields::number_u8;
-use crate::printing::write;
+use crate::printing::write_byte;
 use crate::printing::write_data;
 use crate::printing::write_line;
 use crate::printing::write_message;
@@ -18,9 +18,8 @@ use rules::answer::Outcome;
 // What an outcome shows of a datagram and a reply of eight bytes each.
 fn write_sent(line: &[u8], outcome: Outcome) {
     write_name(line);
-    write(b" ");
     write_data(what_to_send(outcome, b"datagram", b"response"));
-    write(b"\n");
+    write_byte(b'\n');
 }
 
 fn nobody() -> Peer {
@@ -77,9 +76,9 @@ fn message(line: &[u8]) {
     let field = bytes(line, 2, &mut message);
     let all = number(line, 3) as usize;
     write_name(line);
-    write(b" ");
+    write_byte(b' ');
     write_first(&message, length_of(field, all));
-    write(b"\n");
+    write_byte(b'\n');
 }
 
 // What a line shows that needs no table; `V` the vectors, and a heading as it stands.

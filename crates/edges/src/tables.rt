@@ -14,6 +14,9 @@ use table::Channel;
 use table::Permission;
 use table::Slot;
 use table::fresh_slot;
+use table::with_allocation;
+use table::with_channels;
+use table::with_permissions;
 
 pub(crate) fn empty() -> Held {
     let slots = [fresh_slot(); 64];
@@ -68,14 +71,7 @@ fn allocation(held: Held, line: &[u8]) -> Held {
         port: number_u16(line, 5),
         expiry: number(line, 6),
     };
-    let fresh = fresh_slot();
-    let permissions = fresh.permissions;
-    let channels = fresh.channels;
-    let slot = Slot {
-        allocation,
-        permissions,
-        channels,
-    };
+    let slot = with_allocation(fresh_slot(), allocation);
     with(held, number(line, 1) as usize, slot)
 }
 
@@ -86,14 +82,14 @@ fn permission(held: Held, line: &[u8]) -> Held {
     let address = address(line, 3);
     let expiry = number(line, 4);
     let permission = Permission { address, expiry };
-    let mut slot = slot_of(held, place);
+    let slot = slot_of(held, place);
+    let mut permissions = slot.permissions;
     if entry < 8 {
-        slot.permissions[entry] = permission;
-        return with(held, place, slot);
+        permissions[entry] = permission;
+    } else {
+        permissions = [permission; 8];
     }
-    let permissions = [permission; 8];
-    slot.permissions = permissions;
-    with(held, place, slot)
+    with(held, place, with_permissions(slot, permissions))
 }
 
 // `C` place, entry, number, address, port, expiry: a channel in that entry; from 8 on, in every entry.
@@ -106,14 +102,14 @@ fn channel(held: Held, line: &[u8]) -> Held {
         peer,
         expiry: number(line, 6),
     };
-    let mut slot = slot_of(held, place);
+    let slot = slot_of(held, place);
+    let mut channels = slot.channels;
     if entry < 8 {
-        slot.channels[entry] = channel;
-        return with(held, place, slot);
+        channels[entry] = channel;
+    } else {
+        channels = [channel; 8];
     }
-    let channels = [channel; 8];
-    slot.channels = channels;
-    with(held, place, slot)
+    with(held, place, with_channels(slot, channels))
 }
 
 // The table that a line makes: `N` an empty one, `T` with that clock, `A`, `E` and `C` with an allocation, a permission, a channel.

@@ -1,13 +1,15 @@
 // RFC 5769's addresses, IPv4 and IPv6, written into a message and read back.
 use crate::printing::write;
+use crate::printing::write_byte;
 use crate::printing::write_hex;
+use crate::printing::write_number;
 use crate::printing::write_peer;
 use address::Address;
 use address::TransactionId;
 use messages::put_address;
 use stun::kinds::AttributeKind;
 use stun::values::address_at;
-use wire::put_u32;
+use wire::put_u32_at;
 ghost use Prim.Native.Nat.{_≤_};
 ghost use lib.ListN.{length};
 
@@ -20,9 +22,9 @@ fn put_message(message: &mut [u8], address: Address)
         middle: 0xbc34d686,
         low: 0xfa87dfae,
     };
-    put_u32(&mut message[8..], id.high);
-    put_u32(&mut message[12..], id.middle);
-    put_u32(&mut message[16..], id.low);
+    put_u32_at(message, 8, id.high);
+    put_u32_at(message, 12, id.middle);
+    put_u32_at(message, 16, id.low);
     put_address(
         &mut message[20..],
         AttributeKind::XOR_MAPPED_ADDRESS,
@@ -32,28 +34,27 @@ fn put_message(message: &mut [u8], address: Address)
     );
 }
 
-fn ipv4() {
+// The address of that IP version, whose value has so many bytes.
+fn vector(version: u64, address: Address, len: usize)
+    requires { ⌜ len ≤ 20 ⌝ }
+{
     let mut message = [0u8; 64];
-    put_message(&mut message, Address::V4(0xc0000201));
-    write(b"RFC 5769's IPv4 address: written ");
-    write_hex(&message[24..32]);
-    let value = address_at(&message, 24, 8);
-    write_peer(b", read ", value.peer);
-    write(b"\n");
-}
-
-fn ipv6() {
-    let mut message = [0u8; 64];
-    let address = Address::V6(0x20010db8, 0x12345678, 0x00112233, 0x44556677);
     put_message(&mut message, address);
-    write(b"RFC 5769's IPv6 address: written ");
-    write_hex(&message[24..44]);
-    let value = address_at(&message, 24, 20);
-    write_peer(b", read ", value.peer);
-    write(b"\n");
+    write_number(b"RFC 5769's IPv", version);
+    write(b" address: written ");
+    let end = 24 + len;
+    write_hex(&message[24..end]);
+    let value = address_at(&message, 24, len);
+    write(b", read");
+    write_peer(value.peer);
+    write_byte(b'\n');
 }
 
 pub(crate) fn vectors() {
-    ipv4();
-    ipv6();
+    vector(4, Address::V4(0xc0000201), 8);
+    vector(
+        6,
+        Address::V6(0x20010db8, 0x12345678, 0x00112233, 0x44556677),
+        20,
+    );
 }

@@ -5,52 +5,36 @@ use mathlib.Core.List.{List, [], _∷_, _++_}
 use lib.Dec.{eqb, leb}
 use lib.ListN.{length, drop}
 use Rattle.choice.specs.Choice.{pick}
-use Rattle.address.specs.declared.Address.{Address}
-use Rattle.address.specs.declared.Address.the-variants.{V4, V6}
 use Rattle.table.specs.declared.Allocation.{Allocation}
 use Rattle.table.specs.declared.Permission.{Permission}
 use Rattle.table.specs.declared.Channel.{Channel}
 use Rattle.table.specs.declared.Slot.{Slot}
 use Rattle.table.specs.Table.{liveAllocation, livePermission, liveChannel}
-use Rattle.text.specs.Text.{decimal, hexWord}
+use Rattle.text.specs.Text.{line, decimal, addressText}
 use Rattle.listing.specs.declared.fields.Field.{Field}
 use Rattle.listing.specs.declared.fields.Field.the-variants.{Byte, Decimal, Hex, Nothing}
 use Rattle.listing.specs.declared.Listed.{Listed}
 use Rattle.listing.specs.declared.Listed.the-variants.{Refused, Length}
 use Rattle.listing.specs.Texts.{texts}
 
--- 'addresses are 8 or 32 lower hex digits'
-unfoldable pub addressText : Address → List ℕ
-addressText (V4 a) = hexWord a
-addressText (V6 a b c d) = (hexWord a ++ hexWord b) ++ (hexWord c ++ hexWord d)
-
--- 'Tabs part the fields', 'other numbers decimal without leading zeros'
-unfoldable pub fieldText : Field → List ℕ
-fieldText (Byte b) = b ∷ []
-fieldText (Decimal n) = 9 ∷ decimal n
-fieldText (Hex address) = 9 ∷ addressText address
-fieldText Nothing = []
-
-unfoldable pub line : List Field → List ℕ
-line fields = texts (λ (i : ℕ). fieldText) 0 fields
-
 -- '`A` slot, user, client address, client port, server address, server port, relay port, expiry'; 'each line ends in a newline'
 unfoldable pub allocationLine : ℕ → Allocation → List ℕ
 allocationLine k a =
     let client = a .«five_tuple» .client in
     let server = a .«five_tuple» .server in
-    line (Byte 65 ∷ Decimal k ∷ Decimal (a .user) ∷ Hex (client .address) ∷ Decimal (client .port) ∷ Hex (server .address) ∷ Decimal (server .port) ∷ Decimal (a .port) ∷ Decimal (a .expiry) ∷ Byte 10 ∷ [])
+    line
+    ((65 ∷ []) ∷ decimal k ∷ decimal (a .user) ∷ addressText (client .address) ∷ decimal (client .port) ∷ addressText (server .address) ∷ decimal (server .port) ∷ decimal (a .port) ∷ decimal (a .expiry) ∷ [])
 
 -- '`P` slot, address, expiry', of 'live things at the stored clock'
 unfoldable pub permissionLine : ℕ → ℕ → Permission → List ℕ
 permissionLine clock k p =
-    pick (livePermission clock p) (line (Byte 80 ∷ Decimal k ∷ Hex (p .address) ∷ Decimal (p .expiry) ∷ Byte 10 ∷ [])) []
+    pick (livePermission clock p) (line ((80 ∷ []) ∷ decimal k ∷ addressText (p .address) ∷ decimal (p .expiry) ∷ [])) []
 
 -- '`C` slot, number, address, port, expiry', of 'live things at the stored clock'
 unfoldable pub channelLine : ℕ → ℕ → Channel → List ℕ
 channelLine clock k c =
     pick (liveChannel clock c)
-    (line (Byte 67 ∷ Decimal k ∷ Decimal (c .number) ∷ Hex (c .peer .address) ∷ Decimal (c .peer .port) ∷ Decimal (c .expiry) ∷ Byte 10 ∷ []))
+    (line ((67 ∷ []) ∷ decimal k ∷ decimal (c .number) ∷ addressText (c .peer .address) ∷ decimal (c .peer .port) ∷ decimal (c .expiry) ∷ []))
     []
 
 unfoldable pub permissionLines : ℕ → ℕ → List Permission → List ℕ
@@ -81,3 +65,14 @@ pub record Lists (clock : ℕ) (slots : List Slot) (before after : List ℕ) (an
       ≡ pick (eqb (length slots) 64)
       (pick (leb (length (listing clock slots)) (length before)) (listing clock slots ++ drop (length (listing clock slots)) before) before)
       before
+
+-- ---- The fields that the writers cut a line into: its letter and its newline, and each field with the tab before it
+
+unfoldable pub fieldText : Field → List ℕ
+fieldText (Byte b) = b ∷ []
+fieldText (Decimal n) = 9 ∷ decimal n
+fieldText (Hex address) = 9 ∷ addressText address
+fieldText Nothing = []
+
+unfoldable pub fieldsText : List Field → List ℕ
+fieldsText fields = texts (λ (i : ℕ). fieldText) 0 fields

@@ -6,7 +6,7 @@ use table::Permission;
 use table::channels::channel_is_live;
 use table::permissions::permission_is_live;
 ghost use mathlib.Core.Path.{_≡_};
-ghost use Rattle.listing.specs.Listing.{line, allocationLine, permissionLine, channelLine};
+ghost use Rattle.listing.specs.Listing.{fieldsText, allocationLine, permissionLine, channelLine};
 
 pub enum Field {
     // A letter or a newline.
@@ -19,7 +19,7 @@ pub enum Field {
 }
 
 pub fn allocation_fields(k: usize, allocation: Allocation) -> [Field; 10]
-    ensures { λ r. ⌜ line r ≡ allocationLine k allocation ⌝ }
+    ensures { λ r. ⌜ fieldsText r ≡ allocationLine k allocation ⌝ }
 {
     let five_tuple = allocation.five_tuple;
     let client = five_tuple.client;
@@ -41,7 +41,7 @@ pub fn allocation_fields(k: usize, allocation: Allocation) -> [Field; 10]
 }
 
 pub fn permission_fields(clock: u64, k: usize, permission: Permission) -> [Field; 10]
-    ensures { λ r. ⌜ line r ≡ permissionLine clock k permission ⌝ }
+    ensures { λ r. ⌜ fieldsText r ≡ permissionLine clock k permission ⌝ }
 {
     let mut fields = [Field::Nothing; 10];
     if permission_is_live(clock, permission) {
@@ -57,7 +57,7 @@ pub fn permission_fields(clock: u64, k: usize, permission: Permission) -> [Field
 }
 
 pub fn channel_fields(clock: u64, k: usize, channel: Channel) -> [Field; 10]
-    ensures { λ r. ⌜ line r ≡ channelLine clock k channel ⌝ }
+    ensures { λ r. ⌜ fieldsText r ≡ channelLine clock k channel ⌝ }
 {
     let mut fields = [Field::Nothing; 10];
     if channel_is_live(clock, channel) {

@@ -9,13 +9,12 @@ use table::Permission;
 use table::Slot;
 use table::allocations::allocation_is_live;
 use text::put_decimal;
-use text::put_hex_word;
-ghost use mathlib.Core.List.{[], _∷_, _++_};
+ghost use mathlib.Core.List.{[], _∷_};
 ghost use Prim.Native.Nat.{_+_, _≤_};
 ghost use lib.ListN.{length};
-ghost use Rattle.text.specs.Text.{decimal, hexWord};
+ghost use Rattle.text.specs.Text.{decimal, addressText};
 ghost use Rattle.listing.specs.Texts.{Put};
-ghost use Rattle.listing.specs.Listing.{addressText, fieldText, line, permissionLines, channelLines, slotLines};
+ghost use Rattle.listing.specs.Listing.{fieldText, fieldsText, permissionLines, channelLines, slotLines};
 
 fn put_byte(output: &mut [u8], place: usize, b: u8) -> usize
     requires { ⌜ place + length (b ∷ []) ≤ length (now output) ⌝ }
@@ -33,33 +32,12 @@ fn put_number(output: &mut [u8], place: usize, n: u64) -> usize
     place + size
 }
 
-fn put_word(output: &mut [u8], place: usize, n: u32) -> usize
-    requires { ⌜ place + length (hexWord n) ≤ length (now output) ⌝ }
-    ensures { λ r. ⌜ Put (hexWord n) place (now (output .entry)) (now (output .exit)) r ⌝ }
-{
-    put_hex_word(&mut output[place..], n);
-    place + 8
-}
-
-fn put_words(output: &mut [u8], place: usize, a: u32, b: u32) -> usize
-    requires { ⌜ place + length (hexWord a ++ hexWord b) ≤ length (now output) ⌝ }
-    ensures { λ r. ⌜ Put (hexWord a ++ hexWord b) place (now (output .entry)) (now (output .exit)) r ⌝ }
-{
-    let next = put_word(output, place, a);
-    put_word(output, next, b)
-}
-
 fn put_address(output: &mut [u8], place: usize, address: Address) -> usize
     requires { ⌜ place + length (addressText address) ≤ length (now output) ⌝ }
     ensures { λ r. ⌜ Put (addressText address) place (now (output .entry)) (now (output .exit)) r ⌝ }
 {
-    match address {
-        Address::V4(a) => put_word(output, place, a),
-        Address::V6(a, b, c, d) => {
-            let next = put_words(output, place, a, b);
-            put_words(output, next, c, d)
-        }
-    }
+    let size = text::put_address(&mut output[place..], address);
+    place + size
 }
 
 fn put_field(output: &mut [u8], place: usize, field: Field) -> usize
@@ -81,8 +59,8 @@ fn put_field(output: &mut [u8], place: usize, field: Field) -> usize
 }
 
 fn put_line(output: &mut [u8], place: usize, fields: [Field; 10]) -> usize
-    requires { ⌜ place + length (line fields) ≤ length (now output) ⌝ }
-    ensures { λ r. ⌜ Put (line fields) place (now (output .entry)) (now (output .exit)) r ⌝ }
+    requires { ⌜ place + length (fieldsText fields) ≤ length (now output) ⌝ }
+    ensures { λ r. ⌜ Put (fieldsText fields) place (now (output .entry)) (now (output .exit)) r ⌝ }
 {
     let mut next = place;
     let mut i: usize = 0;

@@ -3,25 +3,16 @@ use crate::fields::Field;
 use crate::fields::allocation_fields;
 use crate::fields::channel_fields;
 use crate::fields::permission_fields;
-use address::Address;
 use table::Channel;
 use table::Permission;
 use table::Slot;
 use table::allocations::allocation_is_live;
+use text::address_size;
 use text::decimal_size;
 ghost use mathlib.Core.Path.{_≡_};
 ghost use Prim.Native.Nat.{_≤_};
 ghost use lib.ListN.{length};
-ghost use Rattle.listing.specs.Listing.{addressText, fieldText, line, permissionLines, channelLines, slotLines};
-
-fn address_size(address: Address) -> usize
-    ensures { λ r. ⌜ (r ≡ length (addressText address)) × (r ≤ 32) ⌝ }
-{
-    match address {
-        Address::V4(_) => 8,
-        Address::V6(_, _, _, _) => 32,
-    }
-}
+ghost use Rattle.listing.specs.Listing.{fieldText, fieldsText, permissionLines, channelLines, slotLines};
 
 fn field_size(field: Field) -> usize
     ensures { λ r. ⌜ (r ≡ length (fieldText field)) × (r ≤ 33) ⌝ }
@@ -35,7 +26,7 @@ fn field_size(field: Field) -> usize
 }
 
 fn line_size(fields: [Field; 10]) -> usize
-    ensures { λ r. ⌜ (r ≡ length (line fields)) × (r ≤ 330) ⌝ }
+    ensures { λ r. ⌜ (r ≡ length (fieldsText fields)) × (r ≤ 330) ⌝ }
 {
     let mut size: usize = 0;
     let mut i: usize = 0;

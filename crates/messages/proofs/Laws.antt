@@ -7,9 +7,8 @@ use lib.Seq.{take-suc}
 use lib.Dec.{lit≤}
 use native.Mathlib.Omega.{arith}
 use native.Mathlib.Numerals.{add-one}
-use borrow.Rule.Slice.PartMut.{midOf, putMid}
-use Rattle.wire.specs.Wire.{bytesOf, Wrote}
-use Rattle.wire.proofs.Laws.{length-bytes, wrote-then}
+use Rattle.wire.specs.Wire.{bytesOf, Wrote, WroteAt}
+use Rattle.wire.proofs.Laws.{length-bytes}
 use Rattle.address.specs.declared.Address.{Address}
 use Rattle.address.specs.declared.Address.the-variants.{V4, V6}
 use Rattle.address.specs.declared.Peer.{Peer}
@@ -63,10 +62,9 @@ types-more (u ∷ types) t =
 
 -- the first i types, and then the next
 pub wrote-type : (types : List ℕ) (i : ℕ) {d l y : List ℕ} → i < length types → Wrote (typesBytes (take i types)) d l
-    → Wrote (bytesOf 2 (getD types i 0)) (midOf (i * 2) (length l - i * 2) l) y
-    → Wrote (typesBytes (take (i + 1) types)) d (putMid (i * 2) (length l - i * 2) l y)
+    → WroteAt (i * 2) (bytesOf 2 (getD types i 0)) l y → Wrote (typesBytes (take (i + 1) types)) d y
 wrote-type types i h u v =
-    rw (add-one, take-suc types i 0, ← types-more) (wrote-then u (length-first-types types i (omega arith)) v)
+    rw (add-one, take-suc types i 0, ← types-more) (v _ _ (length-first-types types i (omega arith)) u)
 
 -- ---- A message
 

@@ -12,7 +12,8 @@ use Rattle.address.specs.declared.Peer.{Peer}
 use Rattle.address.specs.declared.TransactionId.{TransactionId}
 use Rattle.stun.specs.declared.kinds.Method.{Method}
 use Rattle.stun.specs.declared.kinds.Method.the-variants.{Allocate, Refresh}
-use Rattle.stun.specs.Kinds.{successType, errorType}
+use Rattle.stun.specs.AttributeNumbers as attribute
+use Rattle.stun.specs.Kinds.{cookie, cookieHigh, successType, errorType, dataType}
 
 -- ---- The parts of a message
 
@@ -22,7 +23,7 @@ transactionIdBytes id = bytesOf 4 (id .high) ++ bytesOf 4 (id .middle) ++ bytesO
 -- the 20 bytes of a header: type, length of what follows, cookie, transaction id
 unfoldable pub headerBytes : ℕ → ℕ → TransactionId → List ℕ
 unfolding transactionIdBytes
-headerBytes type len id = bytesOf 2 type ++ bytesOf 2 len ++ bytesOf 4 0x2112_a442 ++ transactionIdBytes id
+headerBytes type len id = bytesOf 2 type ++ bytesOf 2 len ++ bytesOf 4 cookie ++ transactionIdBytes id
 
 -- how many zeros follow a value of n bytes: 'padding to 4'
 abbrev pub padding : ℕ → ℕ
@@ -41,29 +42,29 @@ messageBytes type id attributes = headerBytes type (length attributes) id ++ att
 
 -- 'Address value: zero byte .., family .., port XOR 0x2112, address XOR the cookie, for IPv6 XOR cookie then transaction id.'
 unfoldable pub addressValue : TransactionId → Address → ℕ → List ℕ
-addressValue id (V4 a) port = bytesOf 2 1 ++ bytesOf 2 (bitXor port 0x2112) ++ bytesOf 4 (bitXor a 0x2112_a442)
+addressValue id (V4 a) port = bytesOf 2 1 ++ bytesOf 2 (bitXor port cookieHigh) ++ bytesOf 4 (bitXor a cookie)
 addressValue id (V6 a b c d) port =
     bytesOf 2 2
-    ++ bytesOf 2 (bitXor port 0x2112)
-    ++ bytesOf 4 (bitXor a 0x2112_a442)
+    ++ bytesOf 2 (bitXor port cookieHigh)
+    ++ bytesOf 4 (bitXor a cookie)
     ++ bytesOf 4 (bitXor b (id .high))
     ++ bytesOf 4 (bitXor c (id .middle))
     ++ bytesOf 4 (bitXor d (id .low))
 
--- XOR-RELAYED-ADDRESS 0x0016, XOR-MAPPED-ADDRESS 0x0020, XOR-PEER-ADDRESS 0x0012
+-- XOR-RELAYED-ADDRESS, XOR-MAPPED-ADDRESS or XOR-PEER-ADDRESS
 unfoldable pub addressAttribute : ℕ → TransactionId → Address → ℕ → List ℕ
 unfolding attributeBytes addressValue
 addressAttribute type id address port = attributeBytes type (addressValue id address port)
 
--- LIFETIME 0x000D: 'the number is in .. all 4'
+-- LIFETIME: 'the number is in .. all 4'
 unfoldable pub lifetimeAttribute : ℕ → List ℕ
 unfolding attributeBytes
-lifetimeAttribute seconds = attributeBytes 0x000d (bytesOf 4 seconds)
+lifetimeAttribute seconds = attributeBytes attribute.lifetime (bytesOf 4 seconds)
 
 -- 'ERROR-CODE 0x0009, 4 bytes: 0, 0, hundreds, rest; no phrase'
 unfoldable pub errorCodeAttribute : ℕ → List ℕ
 unfolding attributeBytes
-errorCodeAttribute code = attributeBytes 0x0009 (bytesOf 2 0 ++ bytesOf 1 (code / 100) ++ bytesOf 1 (code % 100))
+errorCodeAttribute code = attributeBytes attribute.errorCode (bytesOf 2 0 ++ bytesOf 1 (code / 100) ++ bytesOf 1 (code % 100))
 
 -- each type in 2 bytes
 unfoldable pub typesBytes : List ℕ → List ℕ
@@ -73,12 +74,12 @@ typesBytes (t ∷ types) = bytesOf 2 t ++ typesBytes types
 -- 'UNKNOWN-ATTRIBUTES 0x000A: the first 16 unknown types as met, repeats kept, zero padding'
 unfoldable pub unknownAttribute : List ℕ → List ℕ
 unfolding attributeBytes typesBytes
-unknownAttribute types = attributeBytes 0x000a (typesBytes types)
+unknownAttribute types = attributeBytes attribute.unknownAttributes (typesBytes types)
 
--- DATA 0x0013
+-- DATA
 unfoldable pub dataAttribute : List ℕ → List ℕ
 unfolding attributeBytes
-dataAttribute payload = attributeBytes 0x0013 payload
+dataAttribute payload = attributeBytes attribute.«data» payload
 
 -- ---- The messages
 
@@ -87,7 +88,7 @@ unfoldable pub allocateSuccess : TransactionId → ℕ → ℕ → ℕ → Peer 
 unfolding messageBytes addressAttribute lifetimeAttribute
 allocateSuccess id relay port seconds client =
     messageBytes (successType Allocate) id
-    (addressAttribute 0x0016 id (V4 relay) port ++ lifetimeAttribute seconds ++ addressAttribute 0x0020 id (client .address) (client .port))
+    (addressAttribute attribute.xorRelayedAddress id (V4 relay) port ++ lifetimeAttribute seconds ++ addressAttribute attribute.xorMappedAddress id (client .address) (client .port))
 
 -- Refresh: 'Reply: LIFETIME granted.'
 unfoldable pub refreshSuccess : TransactionId → ℕ → List ℕ
@@ -112,7 +113,7 @@ unknownResponse method id types = messageBytes (errorType method) id (errorCodeA
 -- 'a Data indication 0x0017 with XOR-PEER-ADDRESS then DATA, zero padded'
 unfoldable pub dataIndication : TransactionId → ℕ → ℕ → List ℕ → List ℕ
 unfolding messageBytes addressAttribute dataAttribute
-dataIndication id peer port payload = messageBytes 0x0017 id (addressAttribute 0x0012 id (V4 peer) port ++ dataAttribute payload)
+dataIndication id peer port payload = messageBytes dataType id (addressAttribute attribute.xorPeerAddress id (V4 peer) port ++ dataAttribute payload)
 
 -- 'ChannelData: number, length, data', 'without padding'
 unfoldable pub channelData : ℕ → List ℕ → List ℕ
@@ -134,7 +135,7 @@ attributeHead type len = bytesOf 2 type ++ bytesOf 2 len
 -- the head of an address attribute, a zero byte and the family, and the port
 unfoldable pub addressHead : ℕ → ℕ → ℕ → ℕ → List ℕ
 unfolding attributeHead
-addressHead type len family port = attributeHead type len ++ bytesOf 2 family ++ bytesOf 2 (bitXor port 0x2112)
+addressHead type len family port = attributeHead type len ++ bytesOf 2 family ++ bytesOf 2 (bitXor port cookieHigh)
 
 -- the length of an address attribute
 abbrev pub addressSize : Address → ℕ

@@ -1,5 +1,5 @@
-// Writes every message that the relay sends. Each attribute writer gets the part of the reply that starts after what is written
-// already; each message says its exact bytes (specs/Messages.antt) and how many, and leaves the rest of the reply as it was.
+// Writes every message that the relay sends. Each attribute writer gets the part of the reply that starts after the attributes already
+// written, and writes its value's numbers at their places in that part; each message says its exact bytes (specs/Messages.antt) and how many, and leaves the rest of the reply as it was.
 use address::Address;
 use address::Peer;
 use address::TransactionId;
@@ -7,9 +7,11 @@ use stun::kinds::AttributeKind;
 use stun::kinds::MessageKind;
 use stun::kinds::Method;
 use wire::put_bytes;
-use wire::put_u8;
+use wire::put_u8_at;
 use wire::put_u16;
+use wire::put_u16_at;
 use wire::put_u32;
+use wire::put_u32_at;
 use wire::put_zeros;
 use wire::xor_u16;
 use wire::xor_u32;
@@ -28,8 +30,8 @@ fn put_transaction_id(out: &mut [u8], id: TransactionId)
     ensures { λ _. ⌜ Wrote (transactionIdBytes id) (now (out .entry)) (now (out .exit)) ⌝ }
 {
     put_u32(out, id.high);
-    put_u32(&mut out[4..], id.middle);
-    put_u32(&mut out[8..], id.low);
+    put_u32_at(out, 4, id.middle);
+    put_u32_at(out, 8, id.low);
 }
 
 fn put_header(out: &mut [u8], number: u16, len: u16, id: TransactionId)
@@ -37,8 +39,8 @@ fn put_header(out: &mut [u8], number: u16, len: u16, id: TransactionId)
     ensures { λ _. ⌜ Wrote (headerBytes number len id) (now (out .entry)) (now (out .exit)) ⌝ }
 {
     put_u16(out, number);
-    put_u16(&mut out[2..], len);
-    put_u32(&mut out[4..], stun::COOKIE);
+    put_u16_at(out, 2, len);
+    put_u32_at(out, 4, stun::COOKIE);
     put_transaction_id(&mut out[8..], id);
 }
 
@@ -48,7 +50,7 @@ fn put_attribute_head(out: &mut [u8], number: u16, len: u16)
     ensures { λ _. ⌜ Wrote (attributeHead number len) (now (out .entry)) (now (out .exit)) ⌝ }
 {
     put_u16(out, number);
-    put_u16(&mut out[2..], len);
+    put_u16_at(out, 2, len);
 }
 
 // How many zeros follow a value of len bytes.
@@ -84,7 +86,7 @@ fn put_types(out: &mut [u8], types: [u16; 16], count: usize)
 {
     for i in 0..count {
         let at = i * 2;
-        put_u16(&mut out[at..], types[i]);
+        put_u16_at(out, at, types[i]);
     }
 }
 
@@ -96,8 +98,8 @@ fn put_address_head(out: &mut [u8], number: u16, len: u16, family: u16, port: u1
     ensures { λ _. ⌜ Wrote (addressHead number len family port) (now (out .entry)) (now (out .exit)) ⌝ }
 {
     put_attribute_head(out, number, len);
-    put_u16(&mut out[4..], family);
-    put_u16(&mut out[6..], xor_u16(port, stun::COOKIE_HIGH));
+    put_u16_at(out, 4, family);
+    put_u16_at(out, 6, xor_u16(port, stun::COOKIE_HIGH));
 }
 
 // An IPv4 address is not XORed with the transaction id: it may be any.
@@ -106,7 +108,7 @@ fn put_v4_address(out: &mut [u8], number: u16, address: u32, port: u16)
     ensures { λ _. ⌜ ((id : TransactionId) → Wrote (addressAttribute number id (V4 address) port) (now (out .entry)) (now (out .exit))) ⌝ }
 {
     put_address_head(out, number, 8, 1, port);
-    put_u32(&mut out[8..], xor_u32(address, stun::COOKIE));
+    put_u32_at(out, 8, xor_u32(address, stun::COOKIE));
 }
 
 fn put_v6_address(
@@ -123,10 +125,10 @@ fn put_v6_address(
     ensures { λ _. ⌜ Wrote (addressAttribute number id (V6 a b c d) port) (now (out .entry)) (now (out .exit)) ⌝ }
 {
     put_address_head(out, number, 20, 2, port);
-    put_u32(&mut out[8..], xor_u32(a, stun::COOKIE));
-    put_u32(&mut out[12..], xor_u32(b, id.high));
-    put_u32(&mut out[16..], xor_u32(c, id.middle));
-    put_u32(&mut out[20..], xor_u32(d, id.low));
+    put_u32_at(out, 8, xor_u32(a, stun::COOKIE));
+    put_u32_at(out, 12, xor_u32(b, id.high));
+    put_u32_at(out, 16, xor_u32(c, id.middle));
+    put_u32_at(out, 20, xor_u32(d, id.low));
 }
 
 // XOR-RELAYED-ADDRESS, XOR-MAPPED-ADDRESS or XOR-PEER-ADDRESS, by the number; how many bytes it has.
@@ -157,7 +159,7 @@ pub fn put_lifetime(out: &mut [u8], seconds: u32)
     ensures { λ _. ⌜ Wrote (lifetimeAttribute seconds) (now (out .entry)) (now (out .exit)) ⌝ }
 {
     put_attribute_head(out, AttributeKind::LIFETIME, 4);
-    put_u32(&mut out[4..], seconds);
+    put_u32_at(out, 4, seconds);
 }
 
 pub fn put_error_code(out: &mut [u8], code: u16)
@@ -165,9 +167,9 @@ pub fn put_error_code(out: &mut [u8], code: u16)
     ensures { λ _. ⌜ Wrote (errorCodeAttribute code) (now (out .entry)) (now (out .exit)) ⌝ }
 {
     put_attribute_head(out, AttributeKind::ERROR_CODE, 4);
-    put_u16(&mut out[4..], 0);
-    put_u8(&mut out[6..], (code / 100) as u8);
-    put_u8(&mut out[7..], (code % 100) as u8);
+    put_u16_at(out, 4, 0);
+    put_u8_at(out, 6, (code / 100) as u8);
+    put_u8_at(out, 7, (code % 100) as u8);
 }
 
 // UNKNOWN-ATTRIBUTES of the first count types; how many bytes it has.
@@ -304,7 +306,7 @@ pub fn put_channel_data(reply: &mut [u8], number: u16, payload: &[u8]) -> usize
 {
     let len = payload.len();
     put_u16(reply, number);
-    put_u16(&mut reply[2..], len as u16);
+    put_u16_at(reply, 2, len as u16);
     put_bytes(&mut reply[4..], payload);
     4 + len
 }

@@ -1,15 +1,15 @@
 -- The laws that the relay's proofs cite.
-use Prim.Native.Nat.{ℕ, zero, suc, _+_, _-_, _<_, _≤_, _^_}
+use Prim.Native.Nat.{ℕ, zero, suc, _+_, _<_, _≤_, _^_}
 use mathlib.Core.Path.{_≡_, refl, sym, ap, subst, _∙_}
 use mathlib.Core.Bool.{Bool, true, false, not, false≢true}
 use mathlib.Core.List.{List, [], _∷_}
 use native.Mathlib.Nat.{zero-add}
 use native.Mathlib.Omega.{arith}
 use lib.Dec.{eqb, ltb, leb}
-use lib.ListN.{length, getD, set, take, drop}
+use lib.ListN.{length, getD, set, take}
 use lib.Seq.{ext-getD, set-getD}
-use borrow.Author.Tests.{eqb-true, ltb-false, not-true, not-false, le-leb, lt-leb}
-use Rattle.wire.specs.Wire.{num}
+use borrow.Author.Tests.{eqb-true, ltb-false, not-true, not-false}
+use Rattle.wire.specs.Wire.{num, partOf}
 use Rattle.stun.specs.Kinds.{messageKindOf}
 use Rattle.stun.specs.Message.{sorted, wellFormed}
 use Rattle.choice.specs.Choice.{pick}
@@ -36,7 +36,6 @@ use Rattle.relay.specs.declared.calls.Call.{Call}
 use Rattle.relay.specs.declared.calls.Call.the-variants.{Client, Peer}
 use Rattle.relay.specs.declared.calls.FromClient.{FromClient}
 use Rattle.relay.specs.declared.calls.FromPeer.{FromPeer}
-use Rattle.relay.specs.Sending.{part}
 use Rattle.relay.specs.Step.{clockAfter, timeOf, refusal, place, ifFound, placeOf, portsHeld, asRules, surveyOf, allocateAct, keyOf, onFound, foundAct, allocates, clientOf, act, Acted, Stepped, ReadyClient, ReadyPeer, Ready}
 
 -- ---- What is decided about the slot that was found: it is written only where one was
@@ -251,16 +250,6 @@ made-step s n {clock} {clock′} {slots} {slots′} {call} {made} {reply} {reply
     subst (λ (c : Call). Stepped (act clock slots c s n) (timeOf c) outcome slots slots′ clock clock′ reply reply′) e w
 
 -- ---- The parts that are sent
-pub part-in : (s : List ℕ) (start len : ℕ) → start + len ≤ length s → take (start + len - start) (drop start s) ≡ part s start len
-unfolding part
-part-in s start len h =
-    let e : start + len - start ≡ len = omega arith in
-    rw (le-leb (start + len) (length s) h, e)
-
-pub part-past : (s : List ℕ) (start len : ℕ) → length s < start + len → [] ≡ part s start len
-unfolding part
-part-past s start len h = rw (lt-leb (start + len) (length s) h)
-
-pub part-first : (s : List ℕ) (len : ℕ) → part s 0 len ≡ pick (leb len (length s)) (take len s) []
-unfolding part
+pub part-first : (s : List ℕ) (len : ℕ) → partOf s 0 len ≡ pick (leb len (length s)) (take len s) []
+unfolding partOf
 part-first s len = rw (zero-add len)

@@ -1,19 +1,16 @@
 -- The bytes that an outcome sends, as a part of the reply or of the datagram.
-use Prim.Native.Nat.{ℕ, _+_}
+use Prim.Native.Nat.{ℕ}
 use mathlib.Core.List.{List, []}
 use lib.Dec.{leb}
-use lib.ListN.{length, take, drop}
+use lib.ListN.{length, take}
 use Rattle.choice.specs.Choice.{pick}
+use Rattle.wire.specs.Wire.{partOf}
 use Rattle.rules.specs.declared.answer.Outcome.{Outcome}
 use Rattle.rules.specs.declared.answer.Outcome.the-variants.{Refused, Dropped, ToClient, ToPeer}
-
--- the len bytes from start, or none where they don't lie in s
-unfoldable pub part : List ℕ → ℕ → ℕ → List ℕ
-part s start len = pick (leb (start + len) (length s)) (take len (drop start s)) []
 
 -- 'To the client': the first n bytes of the reply; 'To a peer': the payload, where it lies in the datagram
 abbrev pub sent : Outcome → List ℕ → List ℕ → List ℕ
 sent (Refused number) datagram reply = []
 sent Dropped datagram reply = []
 sent (ToClient fiveTuple len) datagram reply = pick (leb len (length reply)) (take len reply) []
-sent (ToPeer port peer start len) datagram reply = pick (leb (start + len) (length datagram)) (take len (drop start datagram)) []
+sent (ToPeer port peer start len) datagram reply = partOf datagram start len

@@ -9,6 +9,7 @@ use Rattle.stun.specs.declared.message.Found.{Found}
 use Rattle.stun.specs.declared.message.Found.the-variants.{Value, Absent}
 use Rattle.stun.specs.declared.channel_data.ChannelMessage.{ChannelMessage}
 use Rattle.stun.specs.declared.channel_data.ChannelMessage.the-variants.{Data, Malformed}
+use Rattle.stun.specs.AttributeNumbers as attribute
 use Rattle.stun.specs.Message.{attributes, firstOf, channelDataOf}
 use Rattle.stun.specs.Values.{firstPeer}
 use Rattle.messages.specs.Messages.{channelData, dataIndication}
@@ -37,7 +38,7 @@ send call s own slot =
     (pick (malformedPeer (firstPeer s)) dropped
     (pick (ipv6Peer (firstPeer s)) dropped
     (pick (not (permitted (call .time) (firstPeer s .peer) slot)) dropped
-    (sentFrom call s slot (firstOf 0x0013 (attributes s))))))))
+    (sentFrom call s slot (firstOf attribute.«data» (attributes s))))))))
 
 abbrev pub channelledFrom : ClientCall → Slot → Bool → ChannelMessage → Out
 channelledFrom call slot own (Data number start len) =

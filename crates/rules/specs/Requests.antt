@@ -16,7 +16,7 @@ use Rattle.stun.specs.Values.{transactionId, peers, firstPeer}
 use Rattle.messages.specs.Messages.{allocateSuccess, refreshSuccess, bareSuccess}
 use Rattle.table.specs.declared.Slot.{Slot}
 use Rattle.table.specs.declared.Placed.{Placed}
-use Rattle.table.specs.Table.{freshPermission, freshChannel, freshSlot, isChannelNumber, permit, numberTaken, peerTaken, bind}
+use Rattle.table.specs.Table.{freshSlot, withAllocation, isChannelNumber, permit, numberTaken, peerTaken, bind}
 use Rattle.rules.specs.declared.requests.ClientCall.{ClientCall}
 use Rattle.rules.specs.declared.requests.Survey.{Survey}
 use Rattle.rules.specs.Act.{Change, keep, write, toClient, check, respond}
@@ -49,11 +49,7 @@ allocateCode call s survey =
 -- 'The lowest such slot is made fresh, then takes the user, the 5-tuple, the port and its expiry, now + granted.'
 unfoldable pub allocated : ClientCall → ℕ → ℕ → Slot
 allocated call port seconds =
-    record {
-      allocation = record { user = call .user; «five_tuple» = call .«five_tuple»; port = port; expiry = call .time + seconds };
-      permissions = freshSlot .permissions;
-      channels = freshSlot .channels;
-    }
+    withAllocation freshSlot (record { user = call .user; «five_tuple» = call .«five_tuple»; port = port; expiry = call .time + seconds })
 
 -- 'Reply: XOR-RELAYED-ADDRESS 0x0016, LIFETIME, XOR-MAPPED-ADDRESS 0x0020 (the client).'
 unfoldable pub allocate : ClientCall → List ℕ → Survey → Change
@@ -76,11 +72,8 @@ refreshCode call s own slot =
 -- 'The expiry becomes now + granted'
 unfoldable pub renewed : ℕ → Slot → Slot
 renewed expiry slot =
-    record {
-      allocation = record { user = slot .allocation .user; «five_tuple» = slot .allocation .«five_tuple»; port = slot .allocation .port; expiry = expiry };
-      permissions = slot .permissions;
-      channels = slot .channels;
-    }
+    let was = slot .allocation in
+    withAllocation slot (record { user = was .user; «five_tuple» = was .«five_tuple»; port = was .port; expiry = expiry })
 
 -- 'granted 0 makes the slot fresh'
 unfoldable pub refreshed : ℕ → ℕ → Slot → Slot

@@ -7,31 +7,34 @@ use lib.ListN.{length}
 use Rattle.choice.specs.Choice.{pick}
 use Rattle.address.specs.declared.Address.{Address}
 use Rattle.address.specs.declared.Address.the-variants.{V4, V6}
+use Rattle.stun.specs.AttributeNumbers as attribute
 use Rattle.stun.specs.Message.{unknownTypes}
 use Rattle.stun.specs.Values.{numberValue}
 use Rattle.stun.specs.declared.values.AddressValue.{AddressValue}
 use Rattle.stun.specs.declared.values.NumberValue.{NumberValue}
 use Rattle.stun.specs.declared.values.NumberValue.the-variants.{Number, WrongLength, Absent}
+use Rattle.rules.specs.declared.values.PeerFault.{PeerFault}
+use Rattle.rules.specs.declared.values.PeerFault.the-variants.{Malformed, Ipv6}
 
 -- 'any unknown attribute'
 unfoldable pub anyUnknown : List ℕ → Bool
 anyUnknown s = not (eqb (length (unknownTypes s)) 0)
 
--- CHANNEL-NUMBER 0x000C: 'the number is in the first 2'
+-- CHANNEL-NUMBER: 'the number is in the first 2'
 abbrev pub channelNumber : List ℕ → NumberValue
-channelNumber s = numberValue 2 0x000c s
+channelNumber s = numberValue 2 attribute.channelNumber s
 
--- LIFETIME 0x000D: 'all 4'
+-- LIFETIME: 'all 4'
 abbrev pub lifetime : List ℕ → NumberValue
-lifetime s = numberValue 4 0x000d s
+lifetime s = numberValue 4 attribute.lifetime s
 
--- REQUESTED-ADDRESS-FAMILY 0x0017: 'first 1'
+-- REQUESTED-ADDRESS-FAMILY: 'first 1'
 abbrev pub requestedFamily : List ℕ → NumberValue
-requestedFamily s = numberValue 1 0x0017 s
+requestedFamily s = numberValue 1 attribute.requestedAddressFamily s
 
--- REQUESTED-TRANSPORT 0x0019: 'first 1'
+-- REQUESTED-TRANSPORT: 'first 1'
 abbrev pub requestedTransport : List ℕ → NumberValue
-requestedTransport s = numberValue 1 0x0019 s
+requestedTransport s = numberValue 1 attribute.requestedTransport s
 
 -- 'missing or not 4 bytes'
 abbrev pub missing : NumberValue → Bool
@@ -91,3 +94,8 @@ malformedPeer v = not (v .«well_formed»)
 
 unfoldable pub ipv6Peer : AddressValue → Bool
 ipv6Peer v = isIpv6 (v .peer .address)
+
+-- 'any malformed 400; any IPv6 443': what a peer address of CreatePermission is looked over for
+abbrev pub faulty : PeerFault → AddressValue → Bool
+faulty Malformed = malformedPeer
+faulty Ipv6 = ipv6Peer

@@ -5,8 +5,8 @@ use crate::answer::check;
 use crate::answer::respond_error;
 use crate::requests::ClientCall;
 use crate::requests::own_code;
-use crate::values::ipv6_peer;
-use crate::values::malformed_peer;
+use crate::values::PeerFault;
+use crate::values::is_faulty;
 use messages::put_bare_success;
 use stun::kinds::Method;
 use stun::values::AddressValue;
@@ -21,48 +21,29 @@ ghost use Prim.Native.Nat.{_≤_, _^_};
 ghost use lib.ListN.{length};
 ghost use Rattle.stun.specs.Values.{peers};
 ghost use Rattle.rules.specs.Act.{Answers};
-ghost use Rattle.rules.specs.Values.{none, any, malformedPeer, ipv6Peer};
+ghost use Rattle.rules.specs.Values.{none, any, faulty};
 ghost use Rattle.rules.specs.Requests.{permitPeer, permitAll, createPermissionCode, createPermission};
 
 fn no_peer(s: &[u8]) -> bool
     requires { ⌜ 20 ≤ length (now s) ⌝ }
     ensures { λ r. ⌜ r ≡ none (peers (now (s .entry))) ⌝ }
 {
-    match next_peer(s, 20) {
+    match next_peer(s, stun::HEADER) {
         PeerReading::One { value: _, next: _ } => false,
         PeerReading::Done => true,
     }
 }
 
-fn any_malformed(s: &[u8]) -> bool
+// Whether some peer address has the fault.
+fn any_faulty(s: &[u8], fault: PeerFault) -> bool
     requires { ⌜ 20 ≤ length (now s) ⌝ }
-    ensures { λ r. ⌜ r ≡ any malformedPeer (peers (now (s .entry))) ⌝ }
+    ensures { λ r. ⌜ r ≡ any (faulty fault) (peers (now (s .entry))) ⌝ }
 {
-    let mut at: usize = 20;
+    let mut at = stun::HEADER;
     loop {
         match next_peer(s, at) {
             PeerReading::One { value, next } => {
-                if malformed_peer(value) {
-                    return true;
-                }
-                at = next;
-            }
-            PeerReading::Done => {
-                return false;
-            }
-        }
-    }
-}
-
-fn any_ipv6(s: &[u8]) -> bool
-    requires { ⌜ 20 ≤ length (now s) ⌝ }
-    ensures { λ r. ⌜ r ≡ any ipv6Peer (peers (now (s .entry))) ⌝ }
-{
-    let mut at: usize = 20;
-    loop {
-        match next_peer(s, at) {
-            PeerReading::One { value, next } => {
-                if ipv6_peer(value) {
+                if is_faulty(fault, value) {
                     return true;
                 }
                 at = next;
@@ -89,7 +70,7 @@ fn permit_all(s: &[u8], time: u64, slot: Slot) -> Placed
     ensures { λ r. ⌜ r ≡ permitAll time (peers (now (s .entry))) slot slot ⌝ }
 {
     let mut done = slot;
-    let mut at: usize = 20;
+    let mut at = stun::HEADER;
     loop {
         match next_peer(s, at) {
             PeerReading::One { value, next } => {
@@ -115,9 +96,9 @@ fn create_permission_code(s: &[u8], call: ClientCall, own: bool, slot: Slot, roo
     ensures { λ r. ⌜ (r ≡ createPermissionCode call (now (s .entry)) own slot) × (r ≤ 699) ⌝ }
 {
     let rest = check(
-        any_malformed(s),
+        any_faulty(s, PeerFault::Malformed),
         400,
-        check(any_ipv6(s), 443, check(!room, 508, 0)),
+        check(any_faulty(s, PeerFault::Ipv6), 443, check(!room, 508, 0)),
     );
     own_code(s, call, own, slot, check(no_peer(s), 400, rest))
 }

@@ -20,6 +20,7 @@ use stun::values::transaction_id;
 use table::Allocation;
 use table::Slot;
 use table::fresh_slot;
+use table::with_allocation;
 ghost use mathlib.Core.Path.{_≡_};
 ghost use Prim.Native.Nat.{_≤_, _^_};
 ghost use lib.ListN.{length};
@@ -98,9 +99,6 @@ fn allocated(call: ClientCall, port: u16, seconds: u32) -> Slot
     requires { ⌜ (call .time ≤ 2 ^ 40) × (seconds ≤ 3600) ⌝ }
     ensures { λ r. ⌜ r ≡ allocated call port seconds ⌝ }
 {
-    let fresh = fresh_slot();
-    let permissions = fresh.permissions;
-    let channels = fresh.channels;
     let five_tuple = call.five_tuple;
     let allocation = Allocation {
         user: call.user,
@@ -108,11 +106,7 @@ fn allocated(call: ClientCall, port: u16, seconds: u32) -> Slot
         port,
         expiry: call.time + seconds as u64,
     };
-    Slot {
-        allocation,
-        permissions,
-        channels,
-    }
+    with_allocation(fresh_slot(), allocation)
 }
 
 // Was is the slot that the allocation would take.
@@ -155,21 +149,9 @@ fn refresh_code(s: &[u8], call: ClientCall, own: bool, slot: Slot) -> u16
 fn renewed(expiry: u64, slot: Slot) -> Slot
     ensures { λ r. ⌜ r ≡ renewed expiry slot ⌝ }
 {
-    let was = slot.allocation;
-    let five_tuple = was.five_tuple;
-    let allocation = Allocation {
-        user: was.user,
-        five_tuple,
-        port: was.port,
-        expiry,
-    };
-    let permissions = slot.permissions;
-    let channels = slot.channels;
-    Slot {
-        allocation,
-        permissions,
-        channels,
-    }
+    let mut allocation = slot.allocation;
+    allocation.expiry = expiry;
+    with_allocation(slot, allocation)
 }
 
 // The slot with its new expiry, or fresh where 0 seconds are granted.

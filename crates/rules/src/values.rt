@@ -5,7 +5,13 @@ use stun::values::AddressValue;
 use stun::values::NumberValue;
 ghost use mathlib.Core.Path.{_≡_};
 ghost use Prim.Native.Nat.{min, max};
-ghost use Rattle.rules.specs.Values.{anyUnknown, missing, wrongLength, otherThan, numberOf, granted, grantedRefresh, isIpv6, ipv4Of, malformedPeer, ipv6Peer};
+ghost use Rattle.rules.specs.Values.{anyUnknown, missing, wrongLength, otherThan, numberOf, granted, grantedRefresh, isIpv6, ipv4Of, malformedPeer, ipv6Peer, faulty};
+
+// What CreatePermission looks each of its peer addresses over for.
+pub(crate) enum PeerFault {
+    Malformed,
+    Ipv6,
+}
 
 pub fn any_unknown(s: &[u8]) -> bool
     ensures { λ r. ⌜ r ≡ anyUnknown (now (s .entry)) ⌝ }
@@ -124,4 +130,13 @@ pub fn ipv6_peer(value: AddressValue) -> bool
     let peer = value.peer;
     let address = peer.address;
     is_ipv6(address)
+}
+
+pub(crate) fn is_faulty(fault: PeerFault, value: AddressValue) -> bool
+    ensures { λ r. ⌜ r ≡ faulty fault value ⌝ }
+{
+    match fault {
+        PeerFault::Malformed => malformed_peer(value),
+        PeerFault::Ipv6 => ipv6_peer(value),
+    }
 }

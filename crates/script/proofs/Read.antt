@@ -6,6 +6,7 @@ use mathlib.Core.List.{List, [], _∷_, _++_}
 use native.Mathlib.Omega.{arith}
 use native.Mathlib.Numerals.{add-one}
 use lib.Dec.{eqb, leb, ltb}
+use borrow.Rule.Slice.PartAt.{part-to-end}
 use borrow.Author.Tests.{leb-true, lt-ltb, le-ltb, eq-eqb, ne-eqb}
 use lib.ListN.{length, getD, take, drop, length-drop, length-append, drop-of-length-le}
 use lib.Seq.{take-all, take-append-seam, slice}
@@ -34,7 +35,7 @@ end-is l e =
     omega (arith, e, q)
 
 pub after-part : (l : List ℕ) (n : ℕ) → take (length l - (n + 1)) (drop (n + 1) l) ≡ drop (suc n) l
-after-part l n = take-all (length l - (n + 1)) (drop (n + 1) l) (rw (length-drop (n + 1) l) omega arith) ∙ rw (add-one)
+after-part l n = part-to-end l (n + 1) ∙ rw (add-one)
 
 picked-fits : (n most : ℕ) (b : Bool) → leb n most ≡ b → valueOf (pick b (Number n) Nothing) ≤ most
 unfolding valueOf
@@ -189,13 +190,10 @@ line-no-tab l h k t = reads-bad (line-is l h k ∙ rw (ne-eqb (getD l 1 0) 9 t))
 line-letter : (l : List ℕ) → length l ≤ 3200 → 2 ≤ length l → getD l 1 0 ≡ 9 → lineOf l ≡ byLetter l
 line-letter l h k t = line-is l h k ∙ rw (eq-eqb (getD l 1 0) 9 t)
 
-pub line-client : (l : List ℕ) {buffer : List ℕ} {r : ReadLine} → length l ≤ 3200 → 2 ≤ length l → getD l 1 0 ≡ 9 → getD l 0 0 ≡ 81
-    → Reads (clientLine (take (length l - 2) (drop 2 l))) buffer r → Reads (lineOf l) buffer r
-line-client l {buffer} {r} h k t e c = subst (λ x. Reads x buffer r) (sym (line-letter l h k t ∙ rw (e, after-part l 1))) c
-
-pub line-peer : (l : List ℕ) {buffer : List ℕ} {r : ReadLine} → length l ≤ 3200 → 2 ≤ length l → getD l 1 0 ≡ 9 → getD l 0 0 ≡ 80
-    → Reads (peerLine (take (length l - 2) (drop 2 l))) buffer r → Reads (lineOf l) buffer r
-line-peer l {buffer} {r} h k t e c = subst (λ x. Reads x buffer r) (sym (line-letter l h k t ∙ rw (e, after-part l 1))) c
+-- the form is the client's or the peer's
+pub line-form : (l : List ℕ) (form : List ℕ → Line) {buffer : List ℕ} {r : ReadLine} → length l ≤ 3200 → 2 ≤ length l → getD l 1 0 ≡ 9 → byLetter l ≡ form (drop 2 l)
+    → Reads (form (take (length l - 2) (drop 2 l))) buffer r → Reads (lineOf l) buffer r
+line-form l form {buffer} {r} h k t e c = subst (λ x. Reads x buffer r) (sym (line-letter l h k t ∙ e ∙ ap form (sym (part-to-end l 2)))) c
 
 pub line-other : (l : List ℕ) {buffer : List ℕ} → length l ≤ 3200 → 2 ≤ length l → getD l 1 0 ≡ 9 → NoneAfter Unit (getD l 0 0) (forms l) → Reads (lineOf l) buffer Bad
 line-other l h k t n = reads-bad (line-letter l h k t ∙ lookup-none (getD l 0 0) (forms l) bad n)

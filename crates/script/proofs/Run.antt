@@ -8,6 +8,7 @@ use lib.Dec.{leb, ltb}
 use lib.ListN.{length, take, drop, length-drop, replicate, length-replicate}
 use borrow.Author.Tests.{le-leb, lt-leb}
 use Rattle.choice.specs.Choice.{pick, both}
+use Rattle.wire.specs.Wire.{partOf}
 use Rattle.rules.specs.declared.answer.Outcome.{Outcome}
 use Rattle.rules.specs.declared.answer.Outcome.the-variants.{Refused, Dropped, ToClient, ToPeer}
 use Rattle.messages.specs.Messages.{Sent}
@@ -45,6 +46,7 @@ take-short (suc k) (x ∷ l) {n = zero} h = let y : ⊥ = omega (arith, h) in ab
 take-short (suc k) (x ∷ l) {n = suc n} h = let r = take-short k l {n = n} (omega (arith, h)) in omega (arith, r)
 
 pub sent-short : (outcome : Outcome) (l : List ℕ) {n : ℕ} → length l ≤ n → length (sent outcome l l) ≤ n
+unfolding partOf
 sent-short (Refused number) l h = omega arith
 sent-short Dropped l h = omega arith
 sent-short (ToClient fiveTuple len) l h = picked-short (leb len (length l)) (take len l) (take-short len l h)

@@ -7,14 +7,12 @@ use native.Mathlib.Numerals.{add-one}
 use lib.ListN.{length, getD, drop, set, length-append}
 use lib.Seq.{drop-cons, set-at}
 use borrow.Rule.Slice.PartMut.{midOf, putMid}
-use Rattle.address.specs.declared.Address.the-variants.{V6}
 use Rattle.address.specs.declared.Peer.{Peer}
 use Rattle.wire.specs.Wire.{Wrote}
 use Rattle.wire.proofs.Laws.{wrote-then}
 use Rattle.messages.specs.Messages.{Sent}
-use Rattle.text.specs.Text.{decimal, hexBytes}
-use Rattle.text.proofs.Laws.{length-hex-word}
-use Rattle.script.specs.Answers.{line, addressText, sentTo}
+use Rattle.text.specs.Text.{line, decimal, addressText, hexBytes}
+use Rattle.script.specs.Answers.{sentTo}
 
 -- after A, one byte was stored
 pub sent-end : (x : ℕ) {A d l : List ℕ} {m : ℕ} → Wrote A d l → m ≡ length A → m < length d → Sent (A ++ x ∷ []) d (set l m x) (m + 1)
@@ -30,10 +28,6 @@ sent-end x {A} {d} {l} {m} w e h =
 pub sent-then : {A B d d1 y : List ℕ} {m n : ℕ} → Sent A d d1 m → Sent B (midOf m (length d1 - m) d1) y n
     → Sent (A ++ B) d (putMid m (length d1 - m) d1 y) (m + n)
 sent-then u v = record { wrote = wrote-then (u .wrote) (sym (u .size)) (v .wrote); size = rw (length-append, u .size, v .size) }
-
-pub length-v6 : (a b c d : ℕ) → length (addressText (V6 a b c d)) ≡ 32
-unfolding addressText
-length-v6 a b c d = simp (length-append, length-hex-word)
 
 -- a line's fields, one by one
 pub line-sent : (peer : Peer) (sent : List ℕ) {d l : List ℕ} {n : ℕ}

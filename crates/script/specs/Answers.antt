@@ -1,24 +1,11 @@
 -- The lines that the call program writes: 'Each line gives `R` number, `D`, `S` client address, port, hex, or `F` relay port, peer address,
 -- port, hex; `E` where a line isn't of these forms'.
 use Prim.Native.Nat.{ℕ}
-use mathlib.Core.List.{List, [], _∷_, _++_}
-use Rattle.address.specs.declared.Address.{Address}
-use Rattle.address.specs.declared.Address.the-variants.{V4, V6}
+use mathlib.Core.List.{List, [], _∷_}
 use Rattle.address.specs.declared.Peer.{Peer}
 use Rattle.rules.specs.declared.answer.Outcome.{Outcome}
 use Rattle.rules.specs.declared.answer.Outcome.the-variants.{Refused, Dropped, ToClient, ToPeer}
-use Rattle.text.specs.Text.{decimal, hexWord, hexBytes}
-
--- 'Tabs part the fields, each line ends in a newline'
-unfoldable pub line : List (List ℕ) → List ℕ
-line [] = 10 ∷ []
-line (field ∷ []) = field ++ 10 ∷ []
-line (field ∷ next ∷ fields) = field ++ 9 ∷ line (next ∷ fields)
-
--- 'addresses are 8 or 32 lower hex digits'
-unfoldable pub addressText : Address → List ℕ
-addressText (V4 a) = hexWord a
-addressText (V6 a b c d) = hexWord a ++ hexWord b ++ hexWord c ++ hexWord d
+use Rattle.text.specs.Text.{line, decimal, addressText, hexBytes}
 
 -- address, port, hex: what goes to a client or a peer
 unfoldable pub sentTo : Peer → List ℕ → List (List ℕ)

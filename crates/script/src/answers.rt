@@ -5,17 +5,14 @@ use address::Peer;
 use rules::answer::Outcome;
 use text::put_decimal;
 use text::put_hex_bytes;
-use text::put_hex_word;
-use wire::put_u8;
 ghost use mathlib.Core.Path.{_≡_};
 ghost use mathlib.Core.List.{[], _∷_, _++_};
 ghost use Prim.Native.Nat.{_≤_};
 ghost use lib.ListN.{length};
-ghost use Rattle.address.specs.declared.Address.the-variants.{V6};
 ghost use Rattle.wire.specs.Wire.{Wrote};
 ghost use Rattle.messages.specs.Messages.{Sent};
-ghost use Rattle.text.specs.Text.{decimal, hexBytes};
-ghost use Rattle.script.specs.Answers.{line, addressText, sentTo, answerOf, badAnswer};
+ghost use Rattle.text.specs.Text.{line, decimal, addressText, hexBytes};
+ghost use Rattle.script.specs.Answers.{sentTo, answerOf, badAnswer};
 
 const TAB: u8 = 9;
 
@@ -40,33 +37,14 @@ fn put_number(out: &mut [u8], n: u64, end: u8) -> usize
     size + 1
 }
 
-fn put_v6(out: &mut [u8], a: u32, b: u32, c: u32, d: u32)
-    requires { ⌜ 32 ≤ length (now out) ⌝ }
-    ensures { λ _. ⌜ Wrote (addressText (V6 a b c d)) (now (out .entry)) (now (out .exit)) ⌝ }
-{
-    put_hex_word(out, a);
-    put_hex_word(&mut out[8..], b);
-    put_hex_word(&mut out[16..], c);
-    put_hex_word(&mut out[24..], d);
-}
-
 // An address, and a tab.
 fn put_address(out: &mut [u8], address: Address) -> usize
     requires { ⌜ 33 ≤ length (now out) ⌝ }
     ensures { λ r. ⌜ (Sent (addressText address ++ 9 ∷ []) (now (out .entry)) (now (out .exit)) r) × (r ≤ 33) ⌝ }
 {
-    match address {
-        Address::V4(a) => {
-            put_hex_word(out, a);
-            out[8] = TAB;
-            9
-        }
-        Address::V6(a, b, c, d) => {
-            put_v6(out, a, b, c, d);
-            out[32] = TAB;
-            33
-        }
-    }
+    let size = text::put_address(out, address);
+    out[size] = TAB;
+    size + 1
 }
 
 // Bytes in hex, and the end of the line.

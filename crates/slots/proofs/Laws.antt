@@ -43,17 +43,6 @@ module _ {A : Type 0} (p : A → Bool) where
       here true = refl
       here false = further-else (find p l) (p x) (length l)
 
-  -- what is found is one of the list's
-  pub find-within : (l : List A) {i : ℕ} → find p l ≡ At i → i < length l
-  unfolding find
-  find-within [] e = let z : _≡_ {A = ℕ} 0 1 = cc in omega arith
-  find-within (y ∷ l) {i} e = here (p y) (find p l) (λ j. find-within l) e
-    where
-      here : (b : Bool) (found : Found) → ((j : ℕ) → found ≡ At j → j < length l) → pick b (At 0) (further found) ≡ At i → i < suc (length l)
-      here true found within e′ = let z : _≡_ {A = ℕ} 0 i = cc in omega arith
-      here false (At j) within e′ = let z : suc j ≡ i = cc in omega (arith, within j refl)
-      here false Nothing within e′ = let z : _≡_ {A = ℕ} 0 1 = cc in omega arith
-
   has-more : (l : List A) (x : A) → has (find p (l ++ x ∷ [])) ≡ pick (has (find p l)) true (p x)
   has-more l x = ap has (find-more l x) ∙ has-else (find p l) (p x) (length l)
 

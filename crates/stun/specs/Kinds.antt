@@ -12,6 +12,14 @@ use Rattle.stun.specs.declared.kinds.MessageKind.{MessageKind}
 use Rattle.stun.specs.declared.kinds.MessageKind.the-variants.{Request, Success, Error, SendIndication, DataIndication, Other}
 use Rattle.stun.specs.declared.kinds.AttributeKind.{AttributeKind}
 use Rattle.stun.specs.declared.kinds.AttributeKind.the-variants as Is
+use Rattle.stun.specs.AttributeNumbers as attribute
+
+-- 'cookie 0x2112A442', and its upper half: 'port XOR 0x2112'
+abbrev pub cookie : ℕ
+cookie = 0x2112_a442
+
+abbrev pub cookieHigh : ℕ
+cookieHigh = 0x2112
 
 -- 'The first byte sorts it: 0 to 3 STUN, 64 to 79 ChannelData, all else dropped'
 abbrev pub classOf : ℕ → Class
@@ -24,6 +32,13 @@ requestType Refresh = 0x0004
 requestType CreatePermission = 0x0008
 requestType ChannelBind = 0x0009
 
+abbrev pub sendType : ℕ
+sendType = 0x0016
+
+-- 'a Data indication 0x0017'
+abbrev pub dataType : ℕ
+dataType = 0x0017
+
 -- 'Success adds 0x0100 to a request's type, error 0x0110.'
 abbrev pub successType : Method → ℕ
 successType m = requestType m + 0x0100
@@ -31,15 +46,15 @@ successType m = requestType m + 0x0100
 abbrev pub errorType : Method → ℕ
 errorType m = requestType m + 0x0110
 
--- 'Other types are dropped.' Successes, errors and the Data indication 0x0017 are what the relay itself sends
+-- 'Other types are dropped.' Successes, errors and the Data indication are what the relay itself sends
 abbrev pub messageKinds : List (ℕ × MessageKind)
 messageKinds =
     (requestType Allocate, Request Allocate)
     ∷ (requestType Refresh, Request Refresh)
     ∷ (requestType CreatePermission, Request CreatePermission)
     ∷ (requestType ChannelBind, Request ChannelBind)
-    ∷ (0x0016, SendIndication)
-    ∷ (0x0017, DataIndication)
+    ∷ (sendType, SendIndication)
+    ∷ (dataType, DataIndication)
     ∷ (successType Allocate, Success Allocate)
     ∷ (successType Refresh, Success Refresh)
     ∷ (successType CreatePermission, Success CreatePermission)
@@ -56,24 +71,24 @@ messageKindOf n = lookup n messageKinds Other
 -- 'Attributes read', and then 'Known and skipped'
 abbrev pub attributeKinds : List (ℕ × AttributeKind)
 attributeKinds =
-    (0x000c, Is.ChannelNumber)
-    ∷ (0x000d, Is.Lifetime)
-    ∷ (0x0012, Is.XorPeerAddress)
-    ∷ (0x0013, Is.Data)
-    ∷ (0x0017, Is.RequestedAddressFamily)
-    ∷ (0x0019, Is.RequestedTransport)
-    ∷ (0x0001, Is.Skipped)
-    ∷ (0x0006, Is.Skipped)
-    ∷ (0x0008, Is.Skipped)
-    ∷ (0x0009, Is.Skipped)
-    ∷ (0x000a, Is.Skipped)
-    ∷ (0x0014, Is.Skipped)
-    ∷ (0x0015, Is.Skipped)
-    ∷ (0x0016, Is.Skipped)
-    ∷ (0x001c, Is.Skipped)
-    ∷ (0x001d, Is.Skipped)
-    ∷ (0x001e, Is.Skipped)
-    ∷ (0x0020, Is.Skipped)
+    (attribute.channelNumber, Is.ChannelNumber)
+    ∷ (attribute.lifetime, Is.Lifetime)
+    ∷ (attribute.xorPeerAddress, Is.XorPeerAddress)
+    ∷ (attribute.«data», Is.Data)
+    ∷ (attribute.requestedAddressFamily, Is.RequestedAddressFamily)
+    ∷ (attribute.requestedTransport, Is.RequestedTransport)
+    ∷ (attribute.mappedAddress, Is.Skipped)
+    ∷ (attribute.username, Is.Skipped)
+    ∷ (attribute.messageIntegrity, Is.Skipped)
+    ∷ (attribute.errorCode, Is.Skipped)
+    ∷ (attribute.unknownAttributes, Is.Skipped)
+    ∷ (attribute.realm, Is.Skipped)
+    ∷ (attribute.nonce, Is.Skipped)
+    ∷ (attribute.xorRelayedAddress, Is.Skipped)
+    ∷ (attribute.messageIntegritySha256, Is.Skipped)
+    ∷ (attribute.passwordAlgorithm, Is.Skipped)
+    ∷ (attribute.userhash, Is.Skipped)
+    ∷ (attribute.xorMappedAddress, Is.Skipped)
     ∷ []
 
 -- 'Other types below 0x8000 are unknown; 0x8000 and above are skipped.'

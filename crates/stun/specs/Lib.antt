@@ -1,3 +1,4 @@
+pub mod AttributeNumbers
 pub mod Kinds
 pub mod Message
 pub mod Values

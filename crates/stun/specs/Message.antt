@@ -19,7 +19,8 @@ use Rattle.stun.specs.declared.message.Reading.the-variants as Read
 use Rattle.stun.specs.declared.message.Found.{Found}
 use Rattle.stun.specs.declared.message.Found.the-variants.{Value, Absent}
 use Rattle.stun.specs.declared.message.UnknownTypes.{UnknownTypes}
-use Rattle.stun.specs.Kinds.{classOf, attributeKindOf, unknownKind}
+use Rattle.stun.specs.AttributeNumbers as attribute
+use Rattle.stun.specs.Kinds.{cookie, classOf, attributeKindOf, unknownKind}
 
 -- 'The first byte sorts it ..; an empty one is dropped.'
 unfoldable pub sorted : List ℕ → Class
@@ -65,13 +66,13 @@ attributesFit s = walk (λ a rest. rest) true false s 20
 -- 'STUN: at least 20 bytes; the length field is the datagram's length less 20, a multiple of 4; cookie 0x2112A442; each attribute .. fits whole.'
 unfoldable pub wellFormed : List ℕ → Bool
 wellFormed s =
-    leb 20 (length s) && eqb (num s 2 2) (length s - 20) && eqb (num s 2 2 % 4) 0 && eqb (num s 4 4) 0x2112_a442 && attributesFit s
+    leb 20 (length s) && eqb (num s 2 2) (length s - 20) && eqb (num s 2 2 % 4) 0 && eqb (num s 4 4) cookie && attributesFit s
 
 -- ---- The attributes that are read
 
--- 0x0008 MESSAGE-INTEGRITY and 0x001C MESSAGE-INTEGRITY-SHA256
+-- MESSAGE-INTEGRITY and MESSAGE-INTEGRITY-SHA256
 unfoldable pub isIntegrity : ℕ → Bool
-isIntegrity number = pick (eqb number 0x0008) true (eqb number 0x001c)
+isIntegrity number = pick (eqb number attribute.messageIntegrity) true (eqb number attribute.messageIntegritySha256)
 
 unfoldable pub isUnknown : ℕ → Bool
 isUnknown number = unknownKind (attributeKindOf number)

@@ -21,6 +21,8 @@ use Rattle.stun.specs.declared.values.Width.{Width}
 use Rattle.stun.specs.declared.values.Width.the-variants as Bytes
 use Rattle.stun.specs.declared.values.NumberValue.{NumberValue}
 use Rattle.stun.specs.declared.values.NumberValue.the-variants.{Number, WrongLength, Absent}
+use Rattle.stun.specs.AttributeNumbers as attribute
+use Rattle.stun.specs.Kinds.{cookie, cookieHigh}
 use Rattle.stun.specs.Message.{attributes, attributesFrom, firstOf}
 
 -- the last 12 bytes of the header
@@ -37,14 +39,14 @@ malformed = record { «well_formed» = false; peer = record { address = V4 0; po
 
 -- 'port XOR 0x2112, address XOR the cookie'
 unfoldable pub v4At : List ℕ → ℕ → AddressValue
-v4At s at = wellFormedAddress (V4 (bitXor (num s (at + 4) 4) 0x2112_a442)) (bitXor (num s (at + 2) 2) 0x2112)
+v4At s at = wellFormedAddress (V4 (bitXor (num s (at + 4) 4) cookie)) (bitXor (num s (at + 2) 2) cookieHigh)
 
 -- 'for IPv6 XOR cookie then transaction id'
 unfoldable pub v6At : List ℕ → ℕ → AddressValue
 v6At s at =
     wellFormedAddress
-    (V6 (bitXor (num s (at + 4) 4) 0x2112_a442) (bitXor (num s (at + 8) 4) (num s 8 4)) (bitXor (num s (at + 12) 4) (num s 12 4)) (bitXor (num s (at + 16) 4) (num s 16 4)))
-    (bitXor (num s (at + 2) 2) 0x2112)
+    (V6 (bitXor (num s (at + 4) 4) cookie) (bitXor (num s (at + 8) 4) (num s 8 4)) (bitXor (num s (at + 12) 4) (num s 12 4)) (bitXor (num s (at + 16) 4) (num s 16 4)))
+    (bitXor (num s (at + 2) 2) cookieHigh)
 
 -- 'zero byte (not checked when read), family (1 with length 8, 2 with length 20; all else malformed)'
 unfoldable pub addressAt : List ℕ → ℕ → ℕ → AddressValue
@@ -52,10 +54,10 @@ addressAt s at len =
     pick (both (eqb len 8) (eqb (getD s (at + 1) 0) 1)) (v4At s at)
     (pick (both (eqb len 20) (eqb (getD s (at + 1) 0) 2)) (v6At s at) malformed)
 
--- the values of the XOR-PEER-ADDRESS attributes 0x0012, in order
+-- the values of the XOR-PEER-ADDRESS attributes, in order
 unfoldable pub peersOf : List ℕ → List Attribute → List AddressValue
 peersOf s [] = []
-peersOf s (a ∷ rest) = pick (eqb (a .number) 0x0012) (addressAt s (a .start) (a .len) ∷ peersOf s rest) (peersOf s rest)
+peersOf s (a ∷ rest) = pick (eqb (a .number) attribute.xorPeerAddress) (addressAt s (a .start) (a .len) ∷ peersOf s rest) (peersOf s rest)
 
 unfoldable pub peersFrom : List ℕ → ℕ → List AddressValue
 peersFrom s at = peersOf s (attributesFrom s at)

@@ -49,7 +49,7 @@ pub fn step_at(s: &[u8], at: usize) -> Step
 pub fn attributes_fit(s: &[u8]) -> bool
     ensures { λ r. ⌜ r ≡ attributesFit (now (s .entry)) ⌝ }
 {
-    let mut at: usize = 20;
+    let mut at = crate::HEADER;
     loop {
         match step_at(s, at) {
             Step::One { attribute: _, next } => {
@@ -69,11 +69,11 @@ pub fn attributes_fit(s: &[u8]) -> bool
 pub fn well_formed(s: &[u8]) -> bool
     ensures { λ r. ⌜ r ≡ wellFormed (now (s .entry)) ⌝ }
 {
-    if s.len() < 20 {
+    if s.len() < crate::HEADER {
         return false;
     }
     let n = u16_at(s, 2) as usize;
-    if n != s.len() - 20 {
+    if n != s.len() - crate::HEADER {
         return false;
     }
     if n % 4 != 0 {
@@ -133,7 +133,7 @@ pub enum Found {
 pub fn first_attribute(s: &[u8], number: u16) -> Found
     ensures { λ r. ⌜ r ≡ firstOf number (attributes (now (s .entry))) ⌝ }
 {
-    let mut at: usize = 20;
+    let mut at = crate::HEADER;
     loop {
         match next_attribute(s, at) {
             Reading::One { attribute, next } => {
@@ -164,7 +164,7 @@ pub fn unknown_types(s: &[u8]) -> UnknownTypes
 {
     let mut types = [0u16; 16];
     let mut count: usize = 0;
-    let mut at: usize = 20;
+    let mut at = crate::HEADER;
     while count < 16 {
         match next_attribute(s, at) {
             Reading::One { attribute, next } => {

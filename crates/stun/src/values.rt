@@ -16,6 +16,7 @@ ghost use mathlib.Core.Path.{_≡_};
 ghost use Prim.Native.Nat.{_+_, _^_, _<_, _≤_};
 ghost use lib.ListN.{length};
 ghost use Rattle.wire.specs.Wire.{num};
+ghost use Rattle.stun.specs.AttributeNumbers.{channelNumber, lifetime, requestedAddressFamily, requestedTransport};
 ghost use Rattle.stun.specs.Values.{transactionId, malformed, v4At, v6At, addressAt, NextPeer, firstPeer, widthOf, numberValue, Below};
 
 pub fn transaction_id(s: &[u8]) -> TransactionId
@@ -137,7 +138,7 @@ pub fn first_peer(s: &[u8]) -> AddressValue
     requires { ⌜ 20 ≤ length (now s) ⌝ }
     ensures { λ r. ⌜ r ≡ firstPeer (now (s .entry)) ⌝ }
 {
-    match next_peer(s, 20) {
+    match next_peer(s, crate::HEADER) {
         PeerReading::One { value, next: _ } => value,
         PeerReading::Done => malformed(),
     }
@@ -186,25 +187,25 @@ fn number_value(s: &[u8], number: u16, width: Width) -> NumberValue
 }
 
 pub fn channel_number(s: &[u8]) -> NumberValue
-    ensures { λ r. ⌜ (r ≡ numberValue 2 0x000c (now (s .entry))) × Below (256 ^ 2) r ⌝ }
+    ensures { λ r. ⌜ (r ≡ numberValue 2 channelNumber (now (s .entry))) × Below (256 ^ 2) r ⌝ }
 {
     number_value(s, AttributeKind::CHANNEL_NUMBER, Width::Two)
 }
 
 pub fn lifetime(s: &[u8]) -> NumberValue
-    ensures { λ r. ⌜ (r ≡ numberValue 4 0x000d (now (s .entry))) × Below (256 ^ 4) r ⌝ }
+    ensures { λ r. ⌜ (r ≡ numberValue 4 lifetime (now (s .entry))) × Below (256 ^ 4) r ⌝ }
 {
     number_value(s, AttributeKind::LIFETIME, Width::Four)
 }
 
 pub fn requested_address_family(s: &[u8]) -> NumberValue
-    ensures { λ r. ⌜ (r ≡ numberValue 1 0x0017 (now (s .entry))) × Below (256 ^ 1) r ⌝ }
+    ensures { λ r. ⌜ (r ≡ numberValue 1 requestedAddressFamily (now (s .entry))) × Below (256 ^ 1) r ⌝ }
 {
     number_value(s, AttributeKind::REQUESTED_ADDRESS_FAMILY, Width::One)
 }
 
 pub fn requested_transport(s: &[u8]) -> NumberValue
-    ensures { λ r. ⌜ (r ≡ numberValue 1 0x0019 (now (s .entry))) × Below (256 ^ 1) r ⌝ }
+    ensures { λ r. ⌜ (r ≡ numberValue 1 requestedTransport (now (s .entry))) × Below (256 ^ 1) r ⌝ }
 {
     number_value(s, AttributeKind::REQUESTED_TRANSPORT, Width::One)
 }

@@ -16,6 +16,10 @@ use Rattle.table.specs.declared.Allocation.{Allocation}
 use Rattle.table.specs.declared.Slot.{Slot}
 use Rattle.table.specs.declared.Found.{Found}
 use Rattle.table.specs.declared.Placed.{Placed}
+use Rattle.table.specs.declared.permissions.PermissionWanted.{PermissionWanted}
+use Rattle.table.specs.declared.permissions.PermissionWanted.the-variants.{For, Free}
+use Rattle.table.specs.declared.channels.ChannelWanted.{ChannelWanted}
+use Rattle.table.specs.declared.channels.ChannelWanted.the-variants.{Number, To, Free}
 use Rattle.table.specs.Search.{has, find, entry, place, atOr}
 
 -- 'A thing is live at time t when t < its expiry.'
@@ -47,6 +51,16 @@ unfoldable pub freshSlot : Slot
 freshSlot =
     record { allocation = freshAllocation; permissions = replicate 8 freshPermission; channels = replicate 8 freshChannel }
 
+-- the slot with another allocation, other permissions or other channels, and the rest of it as it was
+abbrev pub withAllocation : Slot → Allocation → Slot
+withAllocation slot allocation = record { allocation = allocation; permissions = slot .permissions; channels = slot .channels }
+
+abbrev pub withPermissions : Slot → List Permission → Slot
+withPermissions slot permissions = record { allocation = slot .allocation; permissions = permissions; channels = slot .channels }
+
+abbrev pub withChannels : Slot → List Channel → Slot
+withChannels slot channels = record { allocation = slot .allocation; permissions = slot .permissions; channels = channels }
+
 -- 'a channel numbered outside 0x4000 to 0x4FFF is never live'
 unfoldable pub isChannelNumber : ℕ → Bool
 isChannelNumber number = both (leb 0x4000 number) (leb number 0x4fff)
@@ -74,6 +88,11 @@ permits time address permission = both (livePermission time permission) (sameAdd
 unfoldable pub freePermission : ℕ → Permission → Bool
 freePermission time permission = not (livePermission time permission)
 
+-- what a search of the permissions asks of each
+abbrev pub permissionMeets : ℕ → PermissionWanted → Permission → Bool
+permissionMeets time (For address) = permits time address
+permissionMeets time Free = freePermission time
+
 unfoldable pub permissionEntry : ℕ → Address → List Permission → Found
 permissionEntry time address permissions = entry (permits time address) (freePermission time) permissions
 
@@ -83,11 +102,7 @@ permit time address slot =
     let found = permissionEntry time address (slot .permissions) in
     record {
       ok = has found;
-      slot = record {
-        allocation = slot .allocation;
-        permissions = place found (record { address = address; expiry = time + 300 }) (slot .permissions);
-        channels = slot .channels;
-      };
+      slot = withPermissions slot (place found (record { address = address; expiry = time + 300 }) (slot .permissions));
     }
 
 -- ChannelBind: 'number live', as in ChannelData's 'channel not live'
@@ -114,6 +129,12 @@ peerTaken time number peer channels =
 unfoldable pub freeChannel : ℕ → Channel → Bool
 freeChannel time channel = not (liveChannel time channel)
 
+-- what a search of the channels asks of each
+abbrev pub channelMeets : ℕ → ChannelWanted → Channel → Bool
+channelMeets time (Number number) = numbered time number
+channelMeets time (To peer) = leadsTo time peer
+channelMeets time Free = freeChannel time
+
 unfoldable pub channelEntry : ℕ → ℕ → List Channel → Found
 channelEntry time number channels = entry (numbered time number) (freeChannel time) channels
 
@@ -123,9 +144,5 @@ bind time number peer slot =
     let found = channelEntry time number (slot .channels) in
     record {
       ok = has found;
-      slot = record {
-        allocation = slot .allocation;
-        permissions = slot .permissions;
-        channels = place found (record { number = number; peer = peer; expiry = time + 600 }) (slot .channels);
-      };
+      slot = withChannels slot (place found (record { number = number; peer = peer; expiry = time + 600 }) (slot .channels));
     }

@@ -7,14 +7,22 @@ use crate::fresh_peer;
 use crate::has;
 use crate::is_live;
 use crate::or_else;
+use crate::with_channels;
 use address::Peer;
 use address::same_peer;
 use choice::both;
 ghost use mathlib.Core.Path.{_≡_};
 ghost use Prim.Native.Nat.{_≤_, _^_};
 ghost use Rattle.table.specs.Search.{find, place, atOr};
-ghost use Rattle.table.specs.Table.{freshChannel, isChannelNumber, liveChannel, freeChannel, numbered, leadsTo};
+ghost use Rattle.table.specs.Table.{freshChannel, isChannelNumber, liveChannel, numbered, leadsTo, channelMeets};
 ghost use Rattle.table.specs.Table.{numberTaken, peerTaken, channelEntry, bind};
+
+// What a search of the channels looks for: one that is live with a number, one that is live for a peer, or one that isn't live.
+enum ChannelWanted {
+    Number(u16),
+    To(Peer),
+    Free,
+}
 
 pub fn fresh_channel() -> Channel
     ensures { λ r. ⌜ r ≡ freshChannel ⌝ }
@@ -42,12 +50,6 @@ pub fn channel_is_live(time: u64, channel: Channel) -> bool
     )
 }
 
-fn channel_is_free(time: u64, channel: Channel) -> bool
-    ensures { λ r. ⌜ r ≡ freeChannel time channel ⌝ }
-{
-    !channel_is_live(time, channel)
-}
-
 // Whether the channel is live and has the number.
 pub fn numbered(time: u64, number: u16, channel: Channel) -> bool
     ensures { λ r. ⌜ r ≡ numbered time number channel ⌝ }
@@ -65,49 +67,44 @@ pub fn leads_to(time: u64, peer: Peer, channel: Channel) -> bool
     )
 }
 
-// The lowest live channel with the number.
-pub fn channel_by_number(time: u64, number: u16, channels: [Channel; 8]) -> Found
-    ensures { λ r. ⌜ r ≡ find (numbered time number) channels ⌝ }
+// Whether the channel is one that the search looks for.
+fn channel_meets(time: u64, wanted: ChannelWanted, channel: Channel) -> bool
+    ensures { λ r. ⌜ r ≡ channelMeets time wanted channel ⌝ }
+{
+    match wanted {
+        ChannelWanted::Number(number) => numbered(time, number, channel),
+        ChannelWanted::To(peer) => leads_to(time, peer, channel),
+        ChannelWanted::Free => !channel_is_live(time, channel),
+    }
+}
+
+// The lowest channel that is wanted.
+fn search_channels(time: u64, wanted: ChannelWanted, channels: [Channel; 8]) -> Found
+    ensures { λ r. ⌜ r ≡ find (channelMeets time wanted) channels ⌝ }
 {
     let mut i: usize = 0;
     while i < 8 {
         let channel = channels[i];
-        if numbered(time, number, channel) {
+        if channel_meets(time, wanted, channel) {
             return Found::At(i);
         }
         i += 1;
     }
     Found::Nothing
+}
+
+// The lowest live channel with the number.
+pub fn channel_by_number(time: u64, number: u16, channels: [Channel; 8]) -> Found
+    ensures { λ r. ⌜ r ≡ find (numbered time number) channels ⌝ }
+{
+    search_channels(time, ChannelWanted::Number(number), channels)
 }
 
 // The lowest live channel for the peer.
 pub fn channel_by_peer(time: u64, peer: Peer, channels: [Channel; 8]) -> Found
     ensures { λ r. ⌜ r ≡ find (leadsTo time peer) channels ⌝ }
 {
-    let mut i: usize = 0;
-    while i < 8 {
-        let channel = channels[i];
-        if leads_to(time, peer, channel) {
-            return Found::At(i);
-        }
-        i += 1;
-    }
-    Found::Nothing
-}
-
-// The lowest channel that isn't live.
-fn find_free_channel(time: u64, channels: [Channel; 8]) -> Found
-    ensures { λ r. ⌜ r ≡ find (freeChannel time) channels ⌝ }
-{
-    let mut free: usize = 0;
-    while free < 8 {
-        let channel = channels[free];
-        if channel_is_free(time, channel) {
-            return Found::At(free);
-        }
-        free += 1;
-    }
-    Found::Nothing
+    search_channels(time, ChannelWanted::To(peer), channels)
 }
 
 // The channel at the place found, or a fresh one.
@@ -146,7 +143,7 @@ pub fn channel_entry(time: u64, number: u16, channels: [Channel; 8]) -> Found
     ensures { λ r. ⌜ r ≡ channelEntry time number channels ⌝ }
 {
     let live = channel_by_number(time, number, channels);
-    let free = find_free_channel(time, channels);
+    let free = search_channels(time, ChannelWanted::Free, channels);
     or_else(live, free)
 }
 
@@ -168,8 +165,6 @@ pub fn bind(time: u64, number: u16, peer: Peer, slot: Slot) -> Placed
     requires { ⌜ time ≤ 2 ^ 40 ⌝ }
     ensures { λ r. ⌜ r ≡ bind time number peer slot ⌝ }
 {
-    let allocation = slot.allocation;
-    let permissions = slot.permissions;
     let held = slot.channels;
     let entry = channel_entry(time, number, held);
     let channel = Channel {
@@ -178,13 +173,8 @@ pub fn bind(time: u64, number: u16, peer: Peer, slot: Slot) -> Placed
         expiry: time + 600,
     };
     let channels = place_channel(entry, channel, held);
-    let made = Slot {
-        allocation,
-        permissions,
-        channels,
-    };
     Placed {
         ok: has(entry),
-        slot: made,
+        slot: with_channels(slot, channels),
     }
 }

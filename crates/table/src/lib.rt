@@ -8,7 +8,7 @@ use channels::fresh_channel;
 use permissions::fresh_permission;
 ghost use mathlib.Core.Path.{_≡_};
 ghost use Rattle.table.specs.Search.{has, orElse};
-ghost use Rattle.table.specs.Table.{live, freshPeer, freshSlot};
+ghost use Rattle.table.specs.Table.{live, freshPeer, freshSlot, withAllocation, withPermissions, withChannels};
 
 pub mod allocations;
 pub mod channels;
@@ -104,4 +104,31 @@ pub fn fresh_slot() -> Slot
         permissions,
         channels,
     }
+}
+
+// The slot with this allocation in place of its own.
+pub fn with_allocation(slot: Slot, allocation: Allocation) -> Slot
+    ensures { λ r. ⌜ r ≡ withAllocation slot allocation ⌝ }
+{
+    let mut made = slot;
+    made.allocation = allocation;
+    made
+}
+
+// The slot with these permissions in place of its own.
+pub fn with_permissions(slot: Slot, permissions: [Permission; 8]) -> Slot
+    ensures { λ r. ⌜ r ≡ withPermissions slot permissions ⌝ }
+{
+    let mut made = slot;
+    made.permissions = permissions;
+    made
+}
+
+// The slot with these channels in place of its own.
+pub fn with_channels(slot: Slot, channels: [Channel; 8]) -> Slot
+    ensures { λ r. ⌜ r ≡ withChannels slot channels ⌝ }
+{
+    let mut made = slot;
+    made.channels = channels;
+    made
 }

@@ -6,13 +6,20 @@ use crate::Slot;
 use crate::has;
 use crate::is_live;
 use crate::or_else;
+use crate::with_permissions;
 use address::Address;
 use address::same_address;
 use choice::both;
 ghost use mathlib.Core.Path.{_≡_};
 ghost use Prim.Native.Nat.{_≤_, _^_};
 ghost use Rattle.table.specs.Search.{find, place};
-ghost use Rattle.table.specs.Table.{freshPermission, livePermission, freePermission, permits, permissionEntry, permit};
+ghost use Rattle.table.specs.Table.{freshPermission, livePermission, permits, permissionMeets, permissionEntry, permit};
+
+// What a search of the permissions looks for: one that is live for an IP address, or one that isn't live.
+enum PermissionWanted {
+    For(Address),
+    Free,
+}
 
 pub fn fresh_permission() -> Permission
     ensures { λ r. ⌜ r ≡ freshPermission ⌝ }
@@ -27,12 +34,6 @@ pub fn permission_is_live(time: u64, permission: Permission) -> bool
     is_live(time, permission.expiry)
 }
 
-fn permission_is_free(time: u64, permission: Permission) -> bool
-    ensures { λ r. ⌜ r ≡ freePermission time permission ⌝ }
-{
-    !permission_is_live(time, permission)
-}
-
 // Whether the permission is live and for the IP address, at any port.
 pub fn permits(time: u64, address: Address, permission: Permission) -> bool
     ensures { λ r. ⌜ r ≡ permits time address permission ⌝ }
@@ -44,14 +45,24 @@ pub fn permits(time: u64, address: Address, permission: Permission) -> bool
     )
 }
 
-// The lowest live permission for the IP address.
-pub fn find_permission(time: u64, address: Address, permissions: [Permission; 8]) -> Found
-    ensures { λ r. ⌜ r ≡ find (permits time address) permissions ⌝ }
+// Whether the permission is one that the search looks for.
+fn permission_meets(time: u64, wanted: PermissionWanted, permission: Permission) -> bool
+    ensures { λ r. ⌜ r ≡ permissionMeets time wanted permission ⌝ }
+{
+    match wanted {
+        PermissionWanted::For(address) => permits(time, address, permission),
+        PermissionWanted::Free => !permission_is_live(time, permission),
+    }
+}
+
+// The lowest permission that is wanted.
+fn search_permissions(time: u64, wanted: PermissionWanted, permissions: [Permission; 8]) -> Found
+    ensures { λ r. ⌜ r ≡ find (permissionMeets time wanted) permissions ⌝ }
 {
     let mut i: usize = 0;
     while i < 8 {
         let permission = permissions[i];
-        if permits(time, address, permission) {
+        if permission_meets(time, wanted, permission) {
             return Found::At(i);
         }
         i += 1;
@@ -59,19 +70,11 @@ pub fn find_permission(time: u64, address: Address, permissions: [Permission; 8]
     Found::Nothing
 }
 
-// The lowest permission that isn't live.
-fn find_free_permission(time: u64, permissions: [Permission; 8]) -> Found
-    ensures { λ r. ⌜ r ≡ find (freePermission time) permissions ⌝ }
+// The lowest live permission for the IP address.
+pub fn find_permission(time: u64, address: Address, permissions: [Permission; 8]) -> Found
+    ensures { λ r. ⌜ r ≡ find (permits time address) permissions ⌝ }
 {
-    let mut free: usize = 0;
-    while free < 8 {
-        let permission = permissions[free];
-        if permission_is_free(time, permission) {
-            return Found::At(free);
-        }
-        free += 1;
-    }
-    Found::Nothing
+    search_permissions(time, PermissionWanted::For(address), permissions)
 }
 
 // The entry for an IP address: its live permission, or else the lowest that isn't live.
@@ -79,7 +82,7 @@ pub fn permission_entry(time: u64, address: Address, permissions: [Permission; 8
     ensures { λ r. ⌜ r ≡ permissionEntry time address permissions ⌝ }
 {
     let live = find_permission(time, address, permissions);
-    let free = find_free_permission(time, permissions);
+    let free = search_permissions(time, PermissionWanted::Free, permissions);
     or_else(live, free)
 }
 
@@ -105,22 +108,15 @@ pub fn permit(time: u64, address: Address, slot: Slot) -> Placed
     requires { ⌜ time ≤ 2 ^ 40 ⌝ }
     ensures { λ r. ⌜ r ≡ permit time address slot ⌝ }
 {
-    let allocation = slot.allocation;
     let held = slot.permissions;
-    let channels = slot.channels;
     let entry = permission_entry(time, address, held);
     let permission = Permission {
         address,
         expiry: time + 300,
     };
     let permissions = place_permission(entry, permission, held);
-    let made = Slot {
-        allocation,
-        permissions,
-        channels,
-    };
     Placed {
         ok: has(entry),
-        slot: made,
+        slot: with_permissions(slot, permissions),
     }
 }

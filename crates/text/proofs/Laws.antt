@@ -16,9 +16,11 @@ use Rattle.choice.specs.Choice.{pick, both}
 use Rattle.choice.proofs.Laws.{both-parts}
 use Rattle.wire.specs.Wire.{Wrote}
 use Rattle.wire.proofs.Laws.{wrote-then}
+use Rattle.address.specs.declared.Address.{Address}
+use Rattle.address.specs.declared.Address.the-variants.{V4, V6}
 use Rattle.text.specs.declared.Parsed.{Parsed}
 use Rattle.text.specs.declared.Parsed.the-variants.{Number, Nothing}
-use Rattle.text.specs.Text.{digit, digitsOf, sizeWithin, decimalSize, decimal, hexWord, hexBytes, digitValue, numberFrom, ofSize, decimalOf, hexWordOf, isHex, hexBytesOf, hexFront, hexInto, ReadHex}
+use Rattle.text.specs.Text.{digit, digitsOf, sizeWithin, decimalSize, decimal, hexWord, addressText, hexBytes, digitValue, numberFrom, ofSize, decimalOf, hexWordOf, isHex, hexBytesOf, hexFront, hexInto, ReadHex}
 
 -- two numbers are in one of two orders
 either : (n m : ℕ) {P : Type 0} → (n < m → P) → (m ≤ n → P) → P
@@ -177,6 +179,18 @@ length-decimal n = length-digits 10 (decimalSize n) n
 pub length-hex-word : (n : ℕ) → length (hexWord n) ≡ 8
 unfolding hexWord
 length-hex-word n = length-digits 16 8 n
+
+pub length-v4 : {address : Address} {a : ℕ} → address ≡ V4 a → length (addressText address) ≡ 8
+unfolding addressText
+length-v4 {a = a} e = rw e (length-hex-word a)
+
+pub length-v6 : {address : Address} {a b c d : ℕ} → address ≡ V6 a b c d → length (addressText address) ≡ 32
+unfolding addressText
+length-v6 e = rw e (simp (length-append, length-hex-word))
+
+pub address-length : (address : Address) → length (addressText address) ≤ 32
+address-length (V4 a) = omega (arith, length-v4 {a = a} refl)
+address-length (V6 a b c d) = omega (arith, length-v6 {a = a} {b = b} {c = c} {d = d} refl)
 
 -- ---- there and back
 

@@ -1,4 +1,5 @@
--- Numbers and bytes as text: 'addresses are 8 or 32 lower hex digits, other numbers decimal without leading zeros'.
+-- Lines, addresses, numbers and bytes as text: 'Tabs part the fields, each line ends in a newline; addresses are 8 or 32 lower hex digits,
+-- other numbers decimal without leading zeros.'
 use Prim.Native.Nat.{ℕ, zero, suc, _+_, _-_, _*_, _/_, _%_, _^_}
 use mathlib.Core.Path.{_≡_}
 use mathlib.Core.Bool.{Bool, true, false}
@@ -6,10 +7,18 @@ use mathlib.Core.List.{List, [], _∷_, _++_}
 use lib.Dec.{eqb, leb, ltb}
 use lib.ListN.{length, drop}
 use Rattle.choice.specs.Choice.{pick, both}
+use Rattle.address.specs.declared.Address.{Address}
+use Rattle.address.specs.declared.Address.the-variants.{V4, V6}
 use Rattle.text.specs.declared.Parsed.{Parsed}
 use Rattle.text.specs.declared.Parsed.the-variants.{Number, Nothing}
 
 -- ---- Written
+
+-- 'Tabs part the fields, each line ends in a newline'
+unfoldable pub line : List (List ℕ) → List ℕ
+line [] = 10 ∷ []
+line (field ∷ []) = field ++ 10 ∷ []
+line (field ∷ next ∷ fields) = field ++ 9 ∷ line (next ∷ fields)
 
 -- the character of a digit: 0 to 9, then a to f
 unfoldable pub digit : ℕ → ℕ
@@ -35,6 +44,11 @@ decimal n = digitsOf 10 (decimalSize n) n
 -- '8 .. lower hex digits'
 unfoldable pub hexWord : ℕ → List ℕ
 hexWord n = digitsOf 16 8 n
+
+-- 'addresses are 8 or 32 lower hex digits'
+unfoldable pub addressText : Address → List ℕ
+addressText (V4 a) = hexWord a
+addressText (V6 a b c d) = hexWord a ++ hexWord b ++ hexWord c ++ hexWord d
 
 -- two digits a byte
 unfoldable pub hexBytes : List ℕ → List ℕ

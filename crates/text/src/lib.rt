@@ -1,11 +1,13 @@
-// Numbers and bytes as text: decimal without leading zeros, and lower hex. Each is written at the front of lent bytes, and read from
-// a part of lent bytes.
+// Numbers, addresses and bytes as text: decimal without leading zeros, and lower hex. Each is written at the front of lent bytes, and
+// read from a part of lent bytes.
+use address::Address;
 ghost use mathlib.Core.Path.{_≡_};
 ghost use Prim.Native.Nat.{_+_, _*_, _<_, _≤_};
 ghost use lib.ListN.{length};
 ghost use lib.Seq.{slice};
-ghost use Rattle.wire.specs.Wire.{Wrote};
-ghost use Rattle.text.specs.Text.{digit, digitsOf, decimal, hexWord, hexBytes};
+ghost use Rattle.address.specs.declared.Address.the-variants.{V6};
+ghost use Rattle.wire.specs.Wire.{Wrote, WroteAt};
+ghost use Rattle.text.specs.Text.{digit, digitsOf, decimal, hexWord, addressText, hexBytes};
 ghost use Rattle.text.specs.Text.{digitValue, numberFrom, ofSize, decimalOf, hexWordOf, isHex, ReadHex};
 
 // ---- Written
@@ -57,11 +59,55 @@ pub fn put_decimal(out: &mut [u8], n: u64) -> usize
     size
 }
 
-pub fn put_hex_word(out: &mut [u8], n: u32)
+pub(crate) fn put_hex_word(out: &mut [u8], n: u32)
     requires { ⌜ 8 ≤ length (now out) ⌝ }
     ensures { λ _. ⌜ Wrote (hexWord n) (now (out .entry)) (now (out .exit)) ⌝ }
 {
     put_digits(out, n as u64, 16, 8);
+}
+
+// At a place of the buffer, for words one after another.
+fn put_hex_word_at(out: &mut [u8], at: usize, n: u32)
+    requires { ⌜ at + 8 ≤ length (now out) ⌝ }
+    ensures { λ _. ⌜ WroteAt at (hexWord n) (now (out .entry)) (now (out .exit)) ⌝ }
+{
+    put_hex_word(&mut out[at..], n);
+}
+
+fn put_v6(out: &mut [u8], a: u32, b: u32, c: u32, d: u32)
+    requires { ⌜ 32 ≤ length (now out) ⌝ }
+    ensures { λ _. ⌜ Wrote (addressText (V6 a b c d)) (now (out .entry)) (now (out .exit)) ⌝ }
+{
+    put_hex_word(out, a);
+    put_hex_word_at(out, 8, b);
+    put_hex_word_at(out, 16, c);
+    put_hex_word_at(out, 24, d);
+}
+
+pub fn address_size(address: Address) -> usize
+    ensures { λ r. ⌜ (r ≡ length (addressText address)) × (r ≤ 32) ⌝ }
+{
+    match address {
+        Address::V4(_) => 8,
+        Address::V6(_, _, _, _) => 32,
+    }
+}
+
+// How long the address is.
+pub fn put_address(out: &mut [u8], address: Address) -> usize
+    requires { ⌜ length (addressText address) ≤ length (now out) ⌝ }
+    ensures { λ r. ⌜ (r ≡ length (addressText address)) × Wrote (addressText address) (now (out .entry)) (now (out .exit)) ⌝ }
+{
+    match address {
+        Address::V4(a) => {
+            put_hex_word(out, a);
+            8
+        }
+        Address::V6(a, b, c, d) => {
+            put_v6(out, a, b, c, d);
+            32
+        }
+    }
 }
 
 fn wide(b: u8) -> u64

@@ -4,7 +4,7 @@ ghost use mathlib.Core.Path.{_≡_};
 ghost use Prim.Native.Nat.{_+_, _≤_};
 ghost use lib.ListN.{length, replicate};
 ghost use lib.Bits.{bitXor};
-ghost use Rattle.wire.specs.Wire.{num, bytesOf, Wrote};
+ghost use Rattle.wire.specs.Wire.{num, bytesOf, Wrote, WroteAt, partOf};
 
 // ---- Read
 
@@ -29,9 +29,22 @@ pub fn u32_at(s: &[u8], at: usize) -> u32
     (u16_at(s, at) as u32) * 65536 + u16_at(s, at + 2) as u32
 }
 
+// The len bytes from start on, shown and not copied; the empty part where they lie outside.
+pub fn part(s: &[u8], start: usize, len: usize) -> &[u8]
+    ensures { λ r. ⌜ now r ≡ partOf (now (s .entry)) start len ⌝ }
+{
+    if s.len() < start {
+        return &s[..0];
+    }
+    if s.len() - start < len {
+        return &s[..0];
+    }
+    &s[start..start + len]
+}
+
 // ---- Written
 
-pub fn put_u8(out: &mut [u8], n: u8)
+pub(crate) fn put_u8(out: &mut [u8], n: u8)
     requires { ⌜ 1 ≤ length (now out) ⌝ }
     ensures { λ _. ⌜ Wrote (bytesOf 1 n) (now (out .entry)) (now (out .exit)) ⌝ }
 {
@@ -46,12 +59,34 @@ pub fn put_u16(out: &mut [u8], n: u16)
     out[1] = (n % 256) as u8;
 }
 
+// At a place of the buffer, for numbers one after another within one value.
+pub fn put_u8_at(out: &mut [u8], at: usize, n: u8)
+    requires { ⌜ at + 1 ≤ length (now out) ⌝ }
+    ensures { λ _. ⌜ WroteAt at (bytesOf 1 n) (now (out .entry)) (now (out .exit)) ⌝ }
+{
+    put_u8(&mut out[at..], n);
+}
+
+pub fn put_u16_at(out: &mut [u8], at: usize, n: u16)
+    requires { ⌜ at + 2 ≤ length (now out) ⌝ }
+    ensures { λ _. ⌜ WroteAt at (bytesOf 2 n) (now (out .entry)) (now (out .exit)) ⌝ }
+{
+    put_u16(&mut out[at..], n);
+}
+
 pub fn put_u32(out: &mut [u8], n: u32)
     requires { ⌜ 4 ≤ length (now out) ⌝ }
     ensures { λ _. ⌜ Wrote (bytesOf 4 n) (now (out .entry)) (now (out .exit)) ⌝ }
 {
     put_u16(out, (n / 65536) as u16);
-    put_u16(&mut out[2..], (n % 65536) as u16);
+    put_u16_at(out, 2, (n % 65536) as u16);
+}
+
+pub fn put_u32_at(out: &mut [u8], at: usize, n: u32)
+    requires { ⌜ at + 4 ≤ length (now out) ⌝ }
+    ensures { λ _. ⌜ WroteAt at (bytesOf 4 n) (now (out .entry)) (now (out .exit)) ⌝ }
+{
+    put_u32(&mut out[at..], n);
 }
 
 // All of v.

@@ -48,28 +48,7 @@ same-length-3 c = c .before .before .loop .inv .0
 pub next-line-spec : {M : Type 1} → statement M
 next-line-spec =
     tie.close
-    (tie.spec
-    Inv-loop
-    μ-loop
-    (λ c. search needs)
-    (λ c. search needs)
-    (λ c. search needs)
-    (λ c. search needs)
-    loop-holds
-    find-requires
-    (λ c. search needs)
-    same-length
-    (λ c. search needs)
-    sub-kept-of
-    (λ c. search needs)
-    to-front-requires
-    read-behind-requires
-    same-length-2
-    (λ c. search needs)
-    add-end
-    (λ c. search needs)
-    loop-less
-    loop-again
-    (λ c. search needs)
-    same-length-3
+    (tie.spec Inv-loop μ-loop (λ c. search needs) (λ c. search needs) (λ c. search needs) (λ c. search needs) loop-holds find-requires
+    (λ c. search needs) same-length (λ c. search needs) sub-kept-of (λ c. search needs) to-front-requires read-behind-requires
+    same-length-2 (λ c. search needs) add-end (λ c. search needs) loop-less loop-again (λ c. search needs) same-length-3
     (λ c. search needs))

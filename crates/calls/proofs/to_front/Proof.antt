@@ -15,17 +15,11 @@ abbrev μ-loop : tie.MeasureT-loop
 loop-holds : tie.Need-loop-holds Inv-loop μ-loop
 loop-holds c = (refl, c .pre)
 
-add-input : tie.Need-add-input Inv-loop μ-loop
-add-input c = search needs
-
 slice-read-input : tie.Need-slice-read-input Inv-loop μ-loop
 slice-read-input c = omega (arith, c .before .loop-test, c .before .before .loop .inv .0, c .before .before .loop .inv .1)
 
 slice-write-input : tie.Need-slice-write-input Inv-loop μ-loop
 slice-write-input c = omega (arith, c .before .loop-test, c .before .before .loop .inv .0, c .before .before .loop .inv .1)
-
-add-i : tie.Need-add-i Inv-loop μ-loop
-add-i c = search needs
 
 loop-less : tie.Need-loop-less Inv-loop μ-loop
 loop-less c = omega (arith, c .before .loop-test)
@@ -39,15 +33,5 @@ same-length c = c .before .loop .inv .0
 pub to-front-spec : {M : Type 1} → statement M
 to-front-spec =
     tie.close
-    (tie.spec
-    Inv-loop
-    μ-loop
-    loop-holds
-    add-input
-    slice-read-input
-    slice-write-input
-    add-i
-    loop-less
-    loop-again
-    same-length
-    (λ c. search needs))
+    (tie.spec Inv-loop μ-loop loop-holds (λ c. search needs) slice-read-input slice-write-input (λ c. search needs) loop-less loop-again
+    same-length (λ c. search needs))

@@ -11,28 +11,18 @@ returns c = rw (lt-leb _ _ (c .before .if1 .taken), checked-nothing) (c .nothing
 
 returns-2 : tie.Need-returns-2
 unfolding readOf fieldsOf
-returns-2 c = rw (le-leb _ _ (c .before .before .before .before .if1 .left), ← c .before .before .before .u16-at .ensures, ← c .before .before .is-channel .ensures, c .before .if2 .taken) (c .channel-data .ensures)
+returns-2 c = rw (le-leb _ _ (c .before .before .before .before .if1 .left), ← c .before .before .before .u16-at .ensures, ← c .before .before .is-channel-number .ensures, c .before .if2 .taken) (c .channel-data .ensures)
 
 returns-3 : tie.Need-returns-3
 unfolding readOf fieldsOf
-returns-3 c = rw (le-leb _ _ (c .before .before .before .before .before .if1 .left), ← c .before .before .before .before .u16-at .ensures, ← c .before .before .before .is-channel .ensures, c .before .before .if2 .left, lt-leb _ _ (c .before .if3 .taken), checked-nothing) (c .nothing2 .ensures)
+returns-3 c = rw (le-leb _ _ (c .before .before .before .before .before .if1 .left), ← c .before .before .before .before .u16-at .ensures, ← c .before .before .before .is-channel-number .ensures, c .before .before .if2 .left, lt-leb _ _ (c .before .if3 .taken), checked-nothing) (c .nothing2 .ensures)
 
 returns-4 : tie.Need-returns-4
 unfolding readOf fieldsOf
-returns-4 c = rw (le-leb _ _ (c .before .before .before .before .before .before .if1 .left), ← c .before .before .before .before .before .u16-at .ensures, ← c .before .before .before .before .is-channel .ensures, c .before .before .before .if2 .left, le-leb _ _ (c .before .before .if3 .left), ← c .before .of .ensures) (c .stun-message .ensures)
+returns-4 c = rw (le-leb _ _ (c .before .before .before .before .before .before .if1 .left), ← c .before .before .before .before .before .u16-at .ensures, ← c .before .before .before .before .is-channel-number .ensures, c .before .before .before .if2 .left, le-leb _ _ (c .before .before .if3 .left), ← c .before .of .ensures) (c .stun-message .ensures)
 
 pub read-message-spec : {M : Type 1} → statement M
 read-message-spec =
     tie.close
-    (tie.spec
-    (λ c. search needs)
-    returns
-    (λ c. search needs)
-    (λ c. search needs)
-    (λ c. search needs)
-    returns-2
-    (λ c. search needs)
-    returns-3
-    (λ c. search needs)
-    (λ c. search needs)
-    returns-4)
+    (tie.spec (λ c. search needs) returns (λ c. search needs) (λ c. search needs) (λ c. search needs) returns-2 (λ c. search needs)
+    returns-3 (λ c. search needs) (λ c. search needs) returns-4)

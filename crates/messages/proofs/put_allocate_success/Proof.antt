@@ -32,23 +32,6 @@ returns c =
 pub put-allocate-success-spec : {M : Type 1} → statement M
 put-allocate-success-spec =
     tie.close
-    (tie.spec
-    (λ c. search needs)
-    add-len
-    cast-put-header
-    (λ c. search needs)
-    (λ c. search needs)
-    (λ c. search needs)
-    (λ c. search needs)
-    (λ c. search needs)
-    (λ c. search needs)
-    (λ c. search needs)
-    (λ c. search needs)
-    (λ c. search needs)
-    (λ c. search needs)
-    (λ c. search needs)
-    (λ c. search needs)
-    (λ c. search needs)
-    add-result
-    (λ c. search needs)
-    returns)
+    (tie.spec (λ c. search needs) add-len cast-put-header (λ c. search needs) (λ c. search needs) (λ c. search needs)
+    (λ c. search needs) (λ c. search needs) (λ c. search needs) (λ c. search needs) (λ c. search needs) (λ c. search needs)
+    (λ c. search needs) (λ c. search needs) (λ c. search needs) (λ c. search needs) add-result (λ c. search needs) returns)

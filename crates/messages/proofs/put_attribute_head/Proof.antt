@@ -1,4 +1,4 @@
-use Rattle.wire.proofs.Laws.{wrote-then, length-bytes}
+use Rattle.wire.proofs.Laws.{length-bytes}
 use Rattle.messages.specs.Messages.{attributeHead}
 use borrow.Author.Needs.{needs}
 use Rattle.messages.proofs.put_attribute_head.Statement.{statement}
@@ -6,16 +6,7 @@ use Rattle.messages.proofs.put_attribute_head.Tie as tie
 
 returns : tie.Need-returns
 unfolding attributeHead
-returns c = wrote-then (c .before .before .before .before .before .before .put-u16 .ensures) (length-bytes 2 _) (c .before .before .put-u162 .ensures)
+returns c = c .before .before .put-u16-at .ensures _ _ (length-bytes 2 _) (c .before .before .before .before .before .before .put-u16 .ensures)
 
 pub put-attribute-head-spec : {M : Type 1} → statement M
-put-attribute-head-spec =
-    tie.close
-    (tie.spec
-    (λ c. search needs)
-    (λ c. search needs)
-    (λ c. search needs)
-    (λ c. search needs)
-    (λ c. search needs)
-    (λ c. search needs)
-    returns)
+put-attribute-head-spec = tie.close (tie.spec (λ c. search needs) (λ c. search needs) (λ c. search needs) returns)

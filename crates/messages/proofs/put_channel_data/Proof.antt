@@ -9,24 +9,10 @@ use Rattle.messages.proofs.put_channel_data.Tie as tie
 
 returns : tie.Need-returns
 unfolding channelData bytesOf
-returns c =
-    let head = wrote-then (c .before .before .before .before .before .before .before .before .before .before .put-u16 .ensures) refl (c .before .before .before .before .before .before .put-u162 .ensures) in
-    record { wrote = wrote-then head refl (c .before .before .put-bytes .ensures); size = omega arith }
+returns c = record { wrote = wrote-then (c .before .before .before .before .before .before .put-u16-at .ensures _ _ refl (c .before .before .before .before .before .before .before .before .before .before .put-u16 .ensures)) refl (c .before .before .put-bytes .ensures); size = omega arith }
 
 pub put-channel-data-spec : {M : Type 1} → statement M
 put-channel-data-spec =
     tie.close
-    (tie.spec
-    (λ c. search needs)
-    (λ c. search needs)
-    (λ c. search needs)
-    (λ c. search needs)
-    (λ c. search needs)
-    (λ c. search needs)
-    (λ c. search needs)
-    (λ c. search needs)
-    (λ c. search needs)
-    (λ c. search needs)
-    (λ c. search needs)
-    (λ c. search needs)
-    returns)
+    (tie.spec (λ c. search needs) (λ c. search needs) (λ c. search needs) (λ c. search needs) (λ c. search needs) (λ c. search needs)
+    (λ c. search needs) (λ c. search needs) (λ c. search needs) returns)

@@ -8,26 +8,10 @@ use Rattle.messages.proofs.put_header.Tie as tie
 
 returns : tie.Need-returns
 unfolding headerBytes bytesOf
-returns c =
-    let lengths = wrote-then (c .before .before .before .before .before .before .before .before .before .before .before .before .before .before .put-u16 .ensures) refl (c .before .before .before .before .before .before .before .before .before .before .put-u162 .ensures) in
-    wrote-then (wrote-then lengths refl (c .before .before .before .before .before .before .put-u32 .ensures)) refl (c .before .before .put-transaction-id .ensures)
+returns c = wrote-then (c .before .before .before .before .before .before .put-u32-at .ensures _ _ refl (c .before .before .before .before .before .before .before .before .before .before .put-u16-at .ensures _ _ refl (c .before .before .before .before .before .before .before .before .before .before .before .before .before .before .put-u16 .ensures))) refl (c .before .before .put-transaction-id .ensures)
 
 pub put-header-spec : {M : Type 1} → statement M
 put-header-spec =
     tie.close
-    (tie.spec
-    (λ c. search needs)
-    (λ c. search needs)
-    (λ c. search needs)
-    (λ c. search needs)
-    (λ c. search needs)
-    (λ c. search needs)
-    (λ c. search needs)
-    (λ c. search needs)
-    (λ c. search needs)
-    (λ c. search needs)
-    (λ c. search needs)
-    (λ c. search needs)
-    (λ c. search needs)
-    (λ c. search needs)
-    returns)
+    (tie.spec (λ c. search needs) (λ c. search needs) (λ c. search needs) (λ c. search needs) (λ c. search needs) (λ c. search needs)
+    (λ c. search needs) (λ c. search needs) returns)

@@ -1,6 +1,6 @@
 use Prim.Native.Nat.{_≤_, _-_}
 use mathlib.Core.Path.{_≡_, refl}
-use lib.ListN.{take, length-take, length-drop}
+use lib.ListN.{take}
 use native.Mathlib.Omega.{arith}
 use Rattle.wire.specs.Wire.{Wrote}
 use Rattle.wire.proofs.Laws.{wrote-length}
@@ -20,17 +20,11 @@ loop-holds : tie.Need-loop-holds Inv-loop μ-loop
 unfolding typesBytes
 loop-holds c = (omega arith, record { fits = omega arith; is = refl })
 
-sub-put-u16 : tie.Need-sub-put-u16 Inv-loop μ-loop
-sub-put-u16 c = omega (arith, wrote-length (c .before .loop .inv .1))
-
-part-put-u16-start : tie.Need-part-put-u16-start Inv-loop μ-loop
-part-put-u16-start c = omega (arith, wrote-length (c .before .loop .inv .1))
-
-put-u16-requires : tie.Need-put-u16-requires Inv-loop μ-loop
-put-u16-requires c κs = rw (length-take, length-drop) (omega (arith, wrote-length (c .before .before .loop .inv .1)))
+put-u16-at-requires : tie.Need-put-u16-at-requires Inv-loop μ-loop
+put-u16-at-requires c κs = omega (arith, wrote-length (c .before .before .loop .inv .1))
 
 loop-again : tie.Need-loop-again Inv-loop μ-loop
-loop-again c = (omega arith, wrote-type _ (c .before .before .before .before .before .loop .i) (omega arith) (c .before .before .before .before .before .loop .inv .1) (c .before .before .put-u16 .ensures))
+loop-again c = (omega arith, wrote-type _ (c .before .before .before .before .before .loop .i) (omega arith) (c .before .before .before .before .before .loop .inv .1) (c .before .before .put-u16-at .ensures))
 
 same-length : tie.Need-same-length Inv-loop μ-loop
 same-length c = wrote-length (c .before .loop .inv .1)
@@ -41,19 +35,5 @@ returns c = let e : c .before .before .before .args .count ≡ c .before .loop .
 pub put-types-spec : {M : Type 1} → statement M
 put-types-spec =
     tie.close
-    (tie.spec
-    Inv-loop
-    μ-loop
-    loop-holds
-    (λ c. search needs)
-    sub-put-u16
-    part-put-u16-start
-    (λ c. search needs)
-    (λ c. search needs)
-    (λ c. search needs)
-    put-u16-requires
-    (λ c. search needs)
-    (λ c. search needs)
-    loop-again
-    same-length
-    returns)
+    (tie.spec Inv-loop μ-loop loop-holds (λ c. search needs) (λ c. search needs) (λ c. search needs) put-u16-at-requires
+    (λ c. search needs) (λ c. search needs) loop-again same-length returns)

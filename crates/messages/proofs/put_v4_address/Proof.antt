@@ -1,6 +1,5 @@
 use mathlib.Core.Path.{refl}
 use Rattle.wire.specs.Wire.{bytesOf}
-use Rattle.wire.proofs.Laws.{wrote-then}
 use Rattle.messages.specs.Messages.{addressAttribute, addressHead}
 use borrow.Author.Needs.{needs}
 use Rattle.messages.proofs.put_v4_address.Statement.{statement}
@@ -8,17 +7,7 @@ use Rattle.messages.proofs.put_v4_address.Tie as tie
 
 returns : tie.Need-returns
 unfolding addressAttribute addressHead bytesOf
-returns c id = wrote-then (c .before .before .before .before .before .before .before .put-address-head .ensures) refl (rw (c .before .before .before .xor-u32 .ensures) at (c .before .before .put-u32 .ensures))
+returns c id = (rw (c .before .before .before .xor-u32 .ensures) at (c .before .before .put-u32-at .ensures)) _ _ refl (c .before .before .before .before .before .before .before .put-address-head .ensures)
 
 pub put-v4-address-spec : {M : Type 1} → statement M
-put-v4-address-spec =
-    tie.close
-    (tie.spec
-    (λ c. search needs)
-    (λ c. search needs)
-    (λ c. search needs)
-    (λ c. search needs)
-    (λ c. search needs)
-    (λ c. search needs)
-    (λ c. search needs)
-    returns)
+put-v4-address-spec = tie.close (tie.spec (λ c. search needs) (λ c. search needs) (λ c. search needs) (λ c. search needs) returns)

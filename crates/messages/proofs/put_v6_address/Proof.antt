@@ -1,6 +1,5 @@
 use mathlib.Core.Path.{refl}
 use Rattle.wire.specs.Wire.{bytesOf}
-use Rattle.wire.proofs.Laws.{wrote-then}
 use Rattle.messages.specs.Messages.{addressAttribute, addressHead}
 use borrow.Author.Needs.{needs}
 use Rattle.messages.proofs.put_v6_address.Statement.{statement}
@@ -9,35 +8,13 @@ use Rattle.messages.proofs.put_v6_address.Tie as tie
 returns : tie.Need-returns
 unfolding addressAttribute addressHead bytesOf
 returns c =
-    let first = wrote-then (c .before .before .before .before .before .before .before .before .before .before .before .before .before .before .before .before .before .before .before .before .before .before .put-address-head .ensures) refl (rw (c .before .before .before .before .before .before .before .before .before .before .before .before .before .before .before .before .before .before .xor-u32 .ensures) at (c .before .before .before .before .before .before .before .before .before .before .before .before .before .before .before .before .before .put-u32 .ensures)) in
-    let second = wrote-then first refl (rw (c .before .before .before .before .before .before .before .before .before .before .before .before .before .xor-u322 .ensures) at (c .before .before .before .before .before .before .before .before .before .before .before .before .put-u322 .ensures)) in
-    let third = wrote-then second refl (rw (c .before .before .before .before .before .before .before .before .xor-u323 .ensures) at (c .before .before .before .before .before .before .before .put-u323 .ensures)) in
-    wrote-then third refl (rw (c .before .before .before .xor-u324 .ensures) at (c .before .before .put-u324 .ensures))
+    let first = (rw (c .before .before .before .before .before .before .before .before .before .before .before .before .before .before .before .before .before .before .xor-u32 .ensures) at (c .before .before .before .before .before .before .before .before .before .before .before .before .before .before .before .before .before .put-u32-at .ensures)) _ _ refl (c .before .before .before .before .before .before .before .before .before .before .before .before .before .before .before .before .before .before .before .before .before .before .put-address-head .ensures) in
+    let second = (rw (c .before .before .before .before .before .before .before .before .before .before .before .before .before .xor-u322 .ensures) at (c .before .before .before .before .before .before .before .before .before .before .before .before .put-u32-at2 .ensures)) _ _ refl first in
+    let third = (rw (c .before .before .before .before .before .before .before .before .xor-u323 .ensures) at (c .before .before .before .before .before .before .before .put-u32-at3 .ensures)) _ _ refl second in
+    (rw (c .before .before .before .xor-u324 .ensures) at (c .before .before .put-u32-at4 .ensures)) _ _ refl third
 
 pub put-v6-address-spec : {M : Type 1} → statement M
 put-v6-address-spec =
     tie.close
-    (tie.spec
-    (λ c. search needs)
-    (λ c. search needs)
-    (λ c. search needs)
-    (λ c. search needs)
-    (λ c. search needs)
-    (λ c. search needs)
-    (λ c. search needs)
-    (λ c. search needs)
-    (λ c. search needs)
-    (λ c. search needs)
-    (λ c. search needs)
-    (λ c. search needs)
-    (λ c. search needs)
-    (λ c. search needs)
-    (λ c. search needs)
-    (λ c. search needs)
-    (λ c. search needs)
-    (λ c. search needs)
-    (λ c. search needs)
-    (λ c. search needs)
-    (λ c. search needs)
-    (λ c. search needs)
-    returns)
+    (tie.spec (λ c. search needs) (λ c. search needs) (λ c. search needs) (λ c. search needs) (λ c. search needs) (λ c. search needs)
+    (λ c. search needs) (λ c. search needs) (λ c. search needs) (λ c. search needs) returns)

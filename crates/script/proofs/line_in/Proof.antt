@@ -15,11 +15,4 @@ returns-3 c = line-in-back (c .before .before .args .start) (c .before .before .
 pub line-in-spec : {M : Type 1} → statement M
 line-in-spec =
     tie.close
-    (tie.spec
-    (λ c. search needs)
-    (λ c. search needs)
-    (λ c. search needs)
-    (λ c. search needs)
-    returns
-    returns-2
-    returns-3)
+    (tie.spec (λ c. search needs) (λ c. search needs) (λ c. search needs) (λ c. search needs) returns returns-2 returns-3)

@@ -22,13 +22,5 @@ returns-2 c = put-one (c .before .before .before .before .before .before .before
 pub put-outcome-spec : {M : Type 1} → statement M
 put-outcome-spec =
     tie.close
-    (tie.spec
-    (λ c. search needs)
-    (λ c. search needs)
-    put-answer-requires
-    (λ c. search needs)
-    put-answer-requires-2
-    (λ c. search needs)
-    returns
-    (λ c. search needs)
-    returns-2)
+    (tie.spec (λ c. search needs) (λ c. search needs) put-answer-requires (λ c. search needs) put-answer-requires-2 (λ c. search needs)
+    returns (λ c. search needs) returns-2)

@@ -28,12 +28,4 @@ returns-5 c = (rw (le-ltb _ _ (c .before .before .before .if1 .left), lt-leb _ _
 pub digit-value-spec : {M : Type 1} → statement M
 digit-value-spec =
     tie.close
-    (tie.spec
-    returns
-    (λ c. search needs)
-    returns-2
-    returns-3
-    (λ c. search needs)
-    (λ c. search needs)
-    returns-4
-    returns-5)
+    (tie.spec returns (λ c. search needs) returns-2 returns-3 (λ c. search needs) (λ c. search needs) returns-4 returns-5)

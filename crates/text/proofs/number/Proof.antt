@@ -39,19 +39,5 @@ returns-3 c = number-end (c .before .loop .inv) (omega arith)
 pub number-spec : {M : Type 1} → statement M
 number-spec =
     tie.close
-    (tie.spec
-    Inv-loop
-    μ-loop
-    loop-holds
-    shared-slice-read-digit-value
-    (λ c. search needs)
-    returns
-    (λ c. search needs)
-    (λ c. search needs)
-    returns-2
-    mul-n
-    add-n
-    (λ c. search needs)
-    (λ c. search needs)
-    loop-again
-    returns-3)
+    (tie.spec Inv-loop μ-loop loop-holds shared-slice-read-digit-value (λ c. search needs) returns (λ c. search needs)
+    (λ c. search needs) returns-2 mul-n add-n (λ c. search needs) (λ c. search needs) loop-again returns-3)

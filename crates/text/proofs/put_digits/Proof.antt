@@ -33,16 +33,5 @@ returns c = writing-end (c .before .loop .inv) (omega arith) (omega arith)
 pub put-digits-spec : {M : Type 1} → statement M
 put-digits-spec =
     tie.close
-    (tie.spec
-    Inv-loop
-    μ-loop
-    loop-holds
-    (λ c. search needs)
-    (λ c. search needs)
-    digit-requires
-    slice-write-out
-    (λ c. search needs)
-    (λ c. search needs)
-    loop-again
-    same-length
-    returns)
+    (tie.spec Inv-loop μ-loop loop-holds (λ c. search needs) (λ c. search needs) digit-requires slice-write-out (λ c. search needs)
+    (λ c. search needs) loop-again same-length returns)

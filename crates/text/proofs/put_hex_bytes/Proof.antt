@@ -41,19 +41,5 @@ returns c = hexing-end (c .before .loop .inv) (omega arith)
 pub put-hex-bytes-spec : {M : Type 1} → statement M
 put-hex-bytes-spec =
     tie.close
-    (tie.spec
-    Inv-loop
-    μ-loop
-    loop-holds
-    (λ c. search needs)
-    sub-put-digits
-    part-put-digits-start
-    part-put-digits-end
-    (λ c. search needs)
-    (λ c. search needs)
-    put-digits-requires
-    (λ c. search needs)
-    (λ c. search needs)
-    loop-again
-    same-length
-    returns)
+    (tie.spec Inv-loop μ-loop loop-holds (λ c. search needs) sub-put-digits part-put-digits-start part-put-digits-end
+    (λ c. search needs) (λ c. search needs) put-digits-requires (λ c. search needs) (λ c. search needs) loop-again same-length returns)

@@ -47,32 +47,7 @@ returns-4 c = filling-end (c .before .before .loop .inv) (omega arith) (omega ar
 pub read-hex-bytes-spec : {M : Type 1} → statement M
 read-hex-bytes-spec =
     tie.close
-    (tie.spec
-    Inv-loop
-    μ-loop
-    (λ c. search needs)
-    loop-holds
-    (λ c. search needs)
-    (λ c. search needs)
-    (λ c. search needs)
-    (λ c κs. search needs)
-    same-length
-    returns
-    (λ c. search needs)
-    (λ c. search needs)
-    (λ c κs. search needs)
-    same-length-2
-    returns-2
-    (λ c. search needs)
-    (λ c. search needs)
-    (λ c. search needs)
-    slice-write-out
-    (λ c. search needs)
-    (λ c. search needs)
-    loop-again
-    (λ c. search needs)
-    (λ c. search needs)
-    same-length-3
-    returns-3
-    same-length-4
-    returns-4)
+    (tie.spec Inv-loop μ-loop (λ c. search needs) loop-holds (λ c. search needs) (λ c. search needs) (λ c. search needs)
+    (λ c κs. search needs) same-length returns (λ c. search needs) (λ c. search needs) (λ c κs. search needs) same-length-2 returns-2
+    (λ c. search needs) (λ c. search needs) (λ c. search needs) slice-write-out (λ c. search needs) (λ c. search needs) loop-again
+    (λ c. search needs) (λ c. search needs) same-length-3 returns-3 same-length-4 returns-4)

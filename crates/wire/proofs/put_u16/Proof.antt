@@ -11,4 +11,5 @@ returns c = rw (bytes-two (c .args .n) (omega arith)) (wrote-sets (c .args .n / 
 
 pub put-u16-spec : {M : Type 1} → statement M
 put-u16-spec =
-    tie.close (tie.spec (λ c. search needs) (λ c. search needs) (λ c. search needs) (λ c. search needs) (λ c. search needs) returns)
+    tie.close
+    (tie.spec (λ c. search needs) (λ c. search needs) (λ c. search needs) (λ c. search needs) (λ c. search needs) returns)

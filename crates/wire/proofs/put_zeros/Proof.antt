@@ -36,15 +36,4 @@ returns : tie.Need-returns Inv-loop μ-loop
 returns c = wrote-fill (c .before .loop .i) _ _ _ (omega arith) (c .before .before .pre) (c .before .loop .inv .2)
 
 pub put-zeros-spec : {M : Type 1} → statement M
-put-zeros-spec =
-    tie.close
-    (tie.spec
-    Inv-loop
-    μ-loop
-    loop-holds
-    slice-write-out
-    add-i
-    loop-less
-    loop-again
-    same-length
-    returns)
+put-zeros-spec = tie.close (tie.spec Inv-loop μ-loop loop-holds slice-write-out add-i loop-less loop-again same-length returns)

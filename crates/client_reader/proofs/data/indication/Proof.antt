@@ -36,20 +36,6 @@ returns-3 c = rw (le-leb _ _ (c .before .before .before .before .if1 .left), ←
 pub indication-spec : {M : Type 1} → statement M
 indication-spec =
     tie.close
-    (tie.spec
-    (λ c. search needs)
-    returns
-    (λ c. search needs)
-    (λ c. search needs)
-    (λ c. search needs)
-    (λ c. search needs)
-    (λ c. search needs)
-    (λ c. search needs)
-    (λ c. search needs)
-    (λ c. search needs)
-    is-indication-requires
-    (λ c. search needs)
-    (λ c. search needs)
-    returns-2
-    (λ c. search needs)
-    returns-3)
+    (tie.spec (λ c. search needs) returns (λ c. search needs) (λ c. search needs) (λ c. search needs) (λ c. search needs)
+    (λ c. search needs) (λ c. search needs) (λ c. search needs) (λ c. search needs) is-indication-requires (λ c. search needs)
+    (λ c. search needs) returns-2 (λ c. search needs) returns-3)

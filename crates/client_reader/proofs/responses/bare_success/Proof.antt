@@ -14,13 +14,5 @@ returns c = rw (← c .before .before .before .before .before .before .before .t
 pub bare-success-spec : {M : Type 1} → statement M
 bare-success-spec =
     tie.close
-    (tie.spec
-    (λ c. search needs)
-    (λ c. search needs)
-    (λ c. search needs)
-    (λ c. search needs)
-    slice-aggregate-same
-    (λ c. search needs)
-    (λ c. search needs)
-    (λ c. search needs)
-    returns)
+    (tie.spec (λ c. search needs) (λ c. search needs) (λ c. search needs) (λ c. search needs) slice-aggregate-same (λ c. search needs)
+    (λ c. search needs) (λ c. search needs) returns)

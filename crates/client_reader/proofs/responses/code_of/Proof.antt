@@ -10,11 +10,5 @@ returns c = rw (← c .before .u8-at .ensures, ← c .u8-at2 .ensures)
 pub code-of-spec : {M : Type 1} → statement M
 code-of-spec =
     tie.close
-    (tie.spec
-    (λ c. search needs)
-    (λ c. search needs)
-    (λ c. search needs)
-    (λ c. search needs)
-    (λ c. search needs)
-    (λ c. search needs)
+    (tie.spec (λ c. search needs) (λ c. search needs) (λ c. search needs) (λ c. search needs) (λ c. search needs) (λ c. search needs)
     returns)

@@ -26,16 +26,5 @@ returns-2 c = rw (← c .before .before .both .ensures, c .before .if1 .left, ch
 pub plain-error-spec : {M : Type 1} → statement M
 plain-error-spec =
     tie.close
-    (tie.spec
-    (λ c. search needs)
-    (λ c. search needs)
-    (λ c. search needs)
-    put-error-response-requires
-    (λ c. search needs)
-    slice-aggregate-same
-    (λ c. search needs)
-    (λ c. search needs)
-    (λ c. search needs)
-    returns
-    (λ c. search needs)
-    returns-2)
+    (tie.spec (λ c. search needs) (λ c. search needs) (λ c. search needs) put-error-response-requires (λ c. search needs)
+    slice-aggregate-same (λ c. search needs) (λ c. search needs) (λ c. search needs) returns (λ c. search needs) returns-2)

@@ -34,13 +34,5 @@ returns-3 c = rw (← c .before .before .count-fits .ensures, c .before .if1 .le
 pub unknown-attributes-spec : {M : Type 1} → statement M
 unknown-attributes-spec =
     tie.close
-    (tie.spec
-    (λ c. search needs)
-    types-of-requires
-    (λ c. search needs)
-    unknown-response-requires
-    returns
-    (λ c. search needs)
-    returns-2
-    (λ c. search needs)
-    returns-3)
+    (tie.spec (λ c. search needs) types-of-requires (λ c. search needs) unknown-response-requires returns (λ c. search needs) returns-2
+    (λ c. search needs) returns-3)

@@ -13,12 +13,5 @@ returns c = rw (← c .before .before .before .before .before .before .transacti
 pub unknown-response-spec : {M : Type 1} → statement M
 unknown-response-spec =
     tie.close
-    (tie.spec
-    (λ c. search needs)
-    (λ c. search needs)
-    (λ c. search needs)
-    (λ c. search needs)
-    slice-aggregate-same
-    (λ c. search needs)
-    (λ c. search needs)
-    returns)
+    (tie.spec (λ c. search needs) (λ c. search needs) (λ c. search needs) (λ c. search needs) slice-aggregate-same (λ c. search needs)
+    (λ c. search needs) returns)

@@ -15,13 +15,5 @@ abbrev μ-loop : tie.MeasureT-loop
 pub stop-spec : {M : Type 1} → statement M
 stop-spec =
     tie.close
-    (tie.spec
-    Inv-loop
-    μ-loop
-    (λ c. (refl, omega arith))
-    (λ c. search needs)
-    (λ c. (omega arith, omega arith))
-    (λ c. search needs)
-    (λ c. search needs)
-    (λ c. (omega arith, omega arith))
-    (λ c. (omega arith, omega arith)))
+    (tie.spec Inv-loop μ-loop (λ c. (refl, omega arith)) (λ c. search needs) (λ c. (omega arith, omega arith)) (λ c. search needs)
+    (λ c. search needs) (λ c. (omega arith, omega arith)) (λ c. (omega arith, omega arith)))

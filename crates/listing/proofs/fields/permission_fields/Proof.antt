@@ -1,27 +1,21 @@
 use mathlib.Core.Path.{sym, _∙_}
+use Rattle.text.specs.Text.{line}
 use Rattle.listing.specs.Texts.{texts}
-use Rattle.listing.specs.Listing.{fieldText, line, permissionLine}
+use Rattle.listing.specs.Listing.{fieldText, fieldsText, permissionLine}
 use borrow.Author.Needs.{needs}
 use Rattle.listing.proofs.fields.permission_fields.Statement.{statement}
 use Rattle.listing.proofs.fields.permission_fields.Tie as tie
 
 returns : tie.Need-returns
-unfolding texts fieldText line permissionLine
+unfolding line texts fieldText fieldsText permissionLine
 returns c = rw (sym (c .before .permission-is-live .ensures) ∙ c .if1 .taken)
 
 returns-2 : tie.Need-returns-2
-unfolding texts fieldText line permissionLine
+unfolding line texts fieldText fieldsText permissionLine
 returns-2 c = rw (sym (c .before .permission-is-live .ensures) ∙ c .if1 .left)
 
 pub permission-fields-spec : {M : Type 1} → statement M
 permission-fields-spec =
     tie.close
-    (tie.spec
-    (λ c. search needs)
-    (λ c. search needs)
-    (λ c. search needs)
-    (λ c. search needs)
-    (λ c. search needs)
-    (λ c. search needs)
-    returns
-    returns-2)
+    (tie.spec (λ c. search needs) (λ c. search needs) (λ c. search needs) (λ c. search needs) (λ c. search needs) (λ c. search needs)
+    returns returns-2)

@@ -34,16 +34,5 @@ returns c = putting-end (c .before .loop .inv) (omega arith)
 pub put-channels-spec : {M : Type 1} → statement M
 put-channels-spec =
     tie.close
-    (tie.spec
-    Inv-loop
-    μ-loop
-    loop-holds
-    (λ c. search needs)
-    (λ c. search needs)
-    (λ c. search needs)
-    put-line-requires
-    (λ c. search needs)
-    (λ c. search needs)
-    loop-again
-    same-length
-    returns)
+    (tie.spec Inv-loop μ-loop loop-holds (λ c. search needs) (λ c. search needs) (λ c. search needs) put-line-requires
+    (λ c. search needs) (λ c. search needs) loop-again same-length returns)

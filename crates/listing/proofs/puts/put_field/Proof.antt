@@ -1,8 +1,8 @@
 use mathlib.Core.Path.{ap}
 use mathlib.Core.List.{[], _∷_}
 use native.Mathlib.Omega.{arith}
-use Rattle.text.specs.Text.{decimal}
-use Rattle.listing.specs.Listing.{addressText, fieldText}
+use Rattle.text.specs.Text.{decimal, addressText}
+use Rattle.listing.specs.Listing.{fieldText}
 use Rattle.listing.proofs.Laws.{room-first, room-as, put-none, put-room, put-then, put-as}
 use borrow.Author.Needs.{needs}
 use Rattle.listing.proofs.puts.put_field.Statement.{statement}
@@ -47,20 +47,6 @@ returns-4 c = put-as (ap fieldText (c .enum-told .given .1)) (put-none _ _ (omeg
 pub put-field-spec : {M : Type 1} → statement M
 put-field-spec =
     tie.close
-    (tie.spec
-    (λ c. search needs)
-    put-byte-requires
-    (λ c. search needs)
-    put-byte-requires-2
-    put-number-requires
-    (λ c. search needs)
-    put-byte-requires-3
-    put-address-requires
-    (λ c. search needs)
-    (λ c. search needs)
-    returns
-    (λ c. search needs)
-    returns-2
-    (λ c. search needs)
-    returns-3
-    returns-4)
+    (tie.spec (λ c. search needs) put-byte-requires (λ c. search needs) put-byte-requires-2 put-number-requires (λ c. search needs)
+    put-byte-requires-3 put-address-requires (λ c. search needs) (λ c. search needs) returns (λ c. search needs) returns-2
+    (λ c. search needs) returns-3 returns-4)

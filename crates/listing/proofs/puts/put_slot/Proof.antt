@@ -29,12 +29,5 @@ returns-2 c = let a = c .before .before .before .before .before .before .before 
 pub put-slot-spec : {M : Type 1} → statement M
 put-slot-spec =
     tie.close
-    (tie.spec
-    (λ c. search needs)
-    returns
-    (λ c. search needs)
-    put-line-requires
-    put-permissions-requires
-    put-channels-requires
-    (λ c. search needs)
-    returns-2)
+    (tie.spec (λ c. search needs) returns (λ c. search needs) put-line-requires put-permissions-requires put-channels-requires
+    (λ c. search needs) returns-2)

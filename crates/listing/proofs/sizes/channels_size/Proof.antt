@@ -31,16 +31,5 @@ returns c = (sizing-end (c .before .loop .inv) (omega arith), omega (arith, c .b
 pub channels-size-spec : {M : Type 1} → statement M
 channels-size-spec =
     tie.close
-    (tie.spec
-    Inv-loop
-    μ-loop
-    loop-holds
-    (λ c. search needs)
-    (λ c. search needs)
-    (λ c. search needs)
-    (λ c. search needs)
-    add-size
-    (λ c. search needs)
-    (λ c. search needs)
-    loop-again
-    returns)
+    (tie.spec Inv-loop μ-loop loop-holds (λ c. search needs) (λ c. search needs) (λ c. search needs) (λ c. search needs) add-size
+    (λ c. search needs) (λ c. search needs) loop-again returns)

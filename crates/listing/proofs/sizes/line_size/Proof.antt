@@ -2,7 +2,7 @@ use Prim.Native.Nat.{ℕ, _-_}
 use mathlib.Core.Path.{refl}
 use native.Mathlib.Omega.{arith}
 use Rattle.listing.specs.declared.fields.Field.the-variants.{Byte}
-use Rattle.listing.specs.Listing.{fieldText, line}
+use Rattle.listing.specs.Listing.{fieldText, fieldsText}
 use Rattle.listing.proofs.Laws.{Sizing, sizing-start, sizing-next, sizing-end}
 use borrow.Author.Needs.{needs}
 use Rattle.listing.proofs.sizes.line_size.Statement.{statement}
@@ -24,21 +24,11 @@ loop-again : tie.Need-loop-again Inv-loop μ-loop
 loop-again c = sizing-next (c .before .before .before .loop .inv) _ (Byte 0) (omega arith) refl (c .field-size .ensures .0) (c .field-size .ensures .1)
 
 returns : tie.Need-returns Inv-loop μ-loop
-unfolding line
+unfolding fieldsText
 returns c = (sizing-end (c .before .loop .inv) (omega arith), omega (arith, c .before .loop .inv .low, c .before .loop .inv .within))
 
 pub line-size-spec : {M : Type 1} → statement M
 line-size-spec =
     tie.close
-    (tie.spec
-    Inv-loop
-    μ-loop
-    loop-holds
-    (λ c. search needs)
-    (λ c. search needs)
-    (λ c. search needs)
-    add-size
-    (λ c. search needs)
-    (λ c. search needs)
-    loop-again
-    returns)
+    (tie.spec Inv-loop μ-loop loop-holds (λ c. search needs) (λ c. search needs) (λ c. search needs) add-size (λ c. search needs)
+    (λ c. search needs) loop-again returns)

@@ -29,15 +29,5 @@ returns-2 c =
 pub on-found-spec : {M : Type 1} → statement M
 on-found-spec =
     tie.close
-    (tie.spec
-    (λ c. search needs)
-    client-call-requires
-    (λ c. search needs)
-    owned-requires
-    (λ c. search needs)
-    (λ c. search needs)
-    from-peer-requires
-    (λ c. search needs)
-    returns
-    (λ c. search needs)
-    returns-2)
+    (tie.spec (λ c. search needs) client-call-requires (λ c. search needs) owned-requires (λ c. search needs) (λ c. search needs)
+    from-peer-requires (λ c. search needs) returns (λ c. search needs) returns-2)

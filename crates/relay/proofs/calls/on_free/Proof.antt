@@ -19,4 +19,5 @@ returns c = λ slots y.
 
 pub on-free-spec : {M : Type 1} → statement M
 on-free-spec =
-    tie.close (tie.spec (λ c. search needs) (λ c. search needs) (λ c. search needs) allocate-requires (λ c. search needs) returns)
+    tie.close
+    (tie.spec (λ c. search needs) (λ c. search needs) (λ c. search needs) allocate-requires (λ c. search needs) returns)

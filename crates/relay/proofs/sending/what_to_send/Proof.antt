@@ -1,6 +1,5 @@
 use mathlib.Core.Path.{_∙_}
 use Rattle.relay.proofs.Laws.{part-first}
-use Rattle.relay.specs.Sending.{part}
 use borrow.Author.Needs.{needs}
 use Rattle.relay.proofs.sending.what_to_send.Statement.{statement}
 use Rattle.relay.proofs.sending.what_to_send.Tie as tie
@@ -9,22 +8,10 @@ returns-3 : tie.Need-returns-3
 returns-3 c = rw (c .before .before .outcome .given .1) (c .part .ensures ∙ part-first _ _)
 
 returns-4 : tie.Need-returns-4
-unfolding part
 returns-4 c = rw (c .before .before .outcome2 .given .1) (c .part2 .ensures)
 
 pub what-to-send-spec : {M : Type 1} → statement M
 what-to-send-spec =
     tie.close
-    (tie.spec
-    (λ c. search needs)
-    (λ c. search needs)
-    (λ c. search needs)
-    (λ c. search needs)
-    (λ c. search needs)
-    (λ c κs. search needs)
-    (λ c. search needs)
-    (λ c κs. search needs)
-    (λ c. search needs)
-    (λ c. search needs)
-    returns-3
-    returns-4)
+    (tie.spec (λ c. search needs) (λ c. search needs) (λ c. search needs) (λ c. search needs) (λ c. search needs) (λ c κs. search needs)
+    (λ c. search needs) (λ c κs. search needs) (λ c. search needs) (λ c. search needs) returns-3 returns-4)

@@ -20,12 +20,5 @@ returns-2 c = rw (ne-eqb _ _ (c .before .before .before .before .if1 .left), ←
 pub respond-error-spec : {M : Type 1} → statement M
 respond-error-spec =
     tie.close
-    (tie.spec
-    (λ c. search needs)
-    (λ c. search needs)
-    put-unknown-response-requires
-    (λ c. search needs)
-    returns
-    (λ c. search needs)
-    (λ c. search needs)
-    returns-2)
+    (tie.spec (λ c. search needs) (λ c. search needs) put-unknown-response-requires (λ c. search needs) returns (λ c. search needs)
+    (λ c. search needs) returns-2)

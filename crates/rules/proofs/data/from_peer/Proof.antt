@@ -24,12 +24,4 @@ returns-4 c = rw (c .before .before .before .before .before .before .before .bef
 pub from-peer-spec : {M : Type 1} → statement M
 from-peer-spec =
     tie.close
-    (tie.spec
-    returns
-    (λ c. search needs)
-    returns-2
-    (λ c. search needs)
-    returns-3
-    (λ c. search needs)
-    (λ c. search needs)
-    returns-4)
+    (tie.spec returns (λ c. search needs) returns-2 (λ c. search needs) returns-3 (λ c. search needs) (λ c. search needs) returns-4)

@@ -24,13 +24,5 @@ returns-2 c = rw (← c .before .before .before .before .before .before .before 
 pub create-permission-spec : {M : Type 1} → statement M
 create-permission-spec =
     tie.close
-    (tie.spec
-    (λ c. search needs)
-    create-permission-code-requires
-    (λ c. search needs)
-    (λ c. search needs)
-    returns
-    (λ c. search needs)
-    (λ c. search needs)
-    (λ c. search needs)
-    returns-2)
+    (tie.spec (λ c. search needs) create-permission-code-requires (λ c. search needs) (λ c. search needs) returns (λ c. search needs)
+    (λ c. search needs) (λ c. search needs) returns-2)

@@ -35,15 +35,5 @@ returns-2 c = permit-end (c .before .before .before .loop .inv) (c .before .befo
 pub permit-all-spec : {M : Type 1} → statement M
 permit-all-spec =
     tie.close
-    (tie.spec
-    Inv-loop
-    μ-loop
-    loop-holds
-    (λ c. search needs)
-    (λ c. search needs)
-    (λ c. search needs)
-    returns
-    loop-less
-    loop-again
-    (λ c. search needs)
-    returns-2)
+    (tie.spec Inv-loop μ-loop loop-holds (λ c. search needs) (λ c. search needs) (λ c. search needs) returns loop-less loop-again
+    (λ c. search needs) returns-2)

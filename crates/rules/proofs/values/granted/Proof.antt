@@ -14,11 +14,4 @@ returns-3 c = rw (c .enum-told2 .given .1)
 pub granted-spec : {M : Type 1} → statement M
 granted-spec =
     tie.close
-    (tie.spec
-    (λ c. search needs)
-    (λ c. search needs)
-    (λ c. search needs)
-    (λ c. search needs)
-    returns
-    returns-2
-    returns-3)
+    (tie.spec (λ c. search needs) (λ c. search needs) (λ c. search needs) (λ c. search needs) returns returns-2 returns-3)

@@ -18,12 +18,4 @@ returns-4 c = rw (c .enum-told2 .given .1)
 pub granted-refresh-spec : {M : Type 1} → statement M
 granted-refresh-spec =
     tie.close
-    (tie.spec
-    (λ c. search needs)
-    returns
-    (λ c. search needs)
-    (λ c. search needs)
-    (λ c. search needs)
-    returns-2
-    returns-3
-    returns-4)
+    (tie.spec (λ c. search needs) returns (λ c. search needs) (λ c. search needs) (λ c. search needs) returns-2 returns-3 returns-4)

@@ -1,30 +1,20 @@
-use mathlib.Core.Path.{sym}
 use native.Mathlib.Omega.{arith}
-use Rattle.text.proofs.Laws.{length-hex-word}
-use Rattle.script.specs.Answers.{addressText}
-use Rattle.script.proofs.Written.{sent-end, length-v6}
+use Rattle.text.proofs.Laws.{address-length}
+use Rattle.script.proofs.Written.{sent-end}
 use borrow.Author.Needs.{needs}
 use Rattle.script.proofs.answers.put_address.Statement.{statement}
 use Rattle.script.proofs.answers.put_address.Tie as tie
 
-returns : tie.Need-returns
-unfolding addressText
-returns c = rw (c .before .before .before .before .before .address .given .1) (sent-end 9 (c .before .before .put-hex-word .ensures) (sym (length-hex-word _)) (omega arith), omega arith)
+put-address-requires : tie.Need-put-address-requires
+put-address-requires c κs = omega (arith, address-length (c .before .before .args .address))
 
-returns-2 : tie.Need-returns-2
-returns-2 c = rw (c .before .before .before .before .before .address2 .given .1) (sent-end 9 (c .before .before .put-v6 .ensures) (sym (length-v6 _ _ _ _)) (omega arith), omega arith)
+slice-write-out : tie.Need-slice-write-out
+slice-write-out c = omega (arith, address-length (c .before .before .before .before .before .args .address), c .before .before .put-address .ensures .0)
+
+returns : tie.Need-returns
+returns c =
+    let size = address-length (c .before .before .before .before .before .args .address) in
+    (sent-end _ (c .before .before .put-address .ensures .1) (c .before .before .put-address .ensures .0) (omega (arith, size, c .before .before .put-address .ensures .0)), omega (arith, size, c .before .before .put-address .ensures .0))
 
 pub put-address-spec : {M : Type 1} → statement M
-put-address-spec =
-    tie.close
-    (tie.spec
-    (λ c. search needs)
-    (λ c. search needs)
-    (λ c. search needs)
-    (λ c. search needs)
-    (λ c. search needs)
-    (λ c. search needs)
-    (λ c. search needs)
-    returns
-    (λ c. search needs)
-    returns-2)
+put-address-spec = tie.close (tie.spec put-address-requires slice-write-out (λ c. search needs) (λ c. search needs) returns)

@@ -1,5 +1,6 @@
 use mathlib.Core.Path.{refl}
-use Rattle.script.specs.Answers.{line, badAnswer}
+use Rattle.text.specs.Text.{line}
+use Rattle.script.specs.Answers.{badAnswer}
 use borrow.Author.Needs.{needs}
 use Rattle.script.proofs.answers.put_bad.Statement.{statement}
 use Rattle.script.proofs.answers.put_bad.Tie as tie

@@ -12,10 +12,4 @@ returns c = (sent-end 10 (c .before .before .put-hex-bytes .ensures) (sym (lengt
 pub put-hex-spec : {M : Type 1} → statement M
 put-hex-spec =
     tie.close
-    (tie.spec
-    (λ c. search needs)
-    (λ c. search needs)
-    (λ c. search needs)
-    (λ c. search needs)
-    (λ c. search needs)
-    returns)
+    (tie.spec (λ c. search needs) (λ c. search needs) (λ c. search needs) (λ c. search needs) (λ c. search needs) returns)

@@ -19,12 +19,5 @@ returns-3 c = rw (← c .before .before .before .pre .0, ne-eqb _ _ (c .before .
 pub address-of-spec : {M : Type 1} → statement M
 address-of-spec =
     tie.close
-    (tie.spec
-    (λ c. search needs)
-    (λ c. search needs)
-    (λ c. search needs)
-    (λ c. search needs)
-    returns
-    (λ c. search needs)
-    returns-2
+    (tie.spec (λ c. search needs) (λ c. search needs) (λ c. search needs) (λ c. search needs) returns (λ c. search needs) returns-2
     returns-3)

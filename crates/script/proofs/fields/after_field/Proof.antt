@@ -16,11 +16,4 @@ returns-2 c = sym (drop-of-length-le (c .before .before .args .left .now) {i = s
 pub after-field-spec : {M : Type 1} → statement M
 after-field-spec =
     tie.close
-    (tie.spec
-    (λ c. search needs)
-    (λ c. search needs)
-    (λ c. search needs)
-    (λ c. search needs)
-    (λ c. search needs)
-    returns
-    returns-2)
+    (tie.spec (λ c. search needs) (λ c. search needs) (λ c. search needs) (λ c. search needs) (λ c. search needs) returns returns-2)

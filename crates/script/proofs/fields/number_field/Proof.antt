@@ -9,10 +9,4 @@ returns c = number-at (c .before .before .before .before .field-end .ensures .0)
 pub number-field-spec : {M : Type 1} → statement M
 number-field-spec =
     tie.close
-    (tie.spec
-    (λ c. search needs)
-    (λ c. search needs)
-    (λ c. search needs)
-    (λ c. search needs)
-    (λ c. search needs)
-    returns)
+    (tie.spec (λ c. search needs) (λ c. search needs) (λ c. search needs) (λ c. search needs) (λ c. search needs) returns)

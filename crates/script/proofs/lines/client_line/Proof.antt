@@ -28,27 +28,7 @@ returns-2 c = client-asks (c .before .before .before .before .before .before .be
 pub client-line-spec : {M : Type 1} → statement M
 client-line-spec =
     tie.close
-    (tie.spec
-    (λ c. search needs)
-    (λ c. search needs)
-    (λ c. search needs)
-    (λ c. search needs)
-    (λ c. search needs)
-    (λ c. search needs)
-    (λ c. search needs)
-    (λ c. search needs)
-    (λ c. search needs)
-    (λ c. search needs)
-    (λ c. search needs)
-    (λ c. search needs)
-    (λ c. search needs)
-    (λ c. search needs)
-    (λ c. search needs)
-    returns
-    cast-from-client
-    cast-from-client-2
-    cast-from-client-3
-    (λ c. search needs)
-    with-datagram-requires
-    (λ c. search needs)
-    returns-2)
+    (tie.spec (λ c. search needs) (λ c. search needs) (λ c. search needs) (λ c. search needs) (λ c. search needs) (λ c. search needs)
+    (λ c. search needs) (λ c. search needs) (λ c. search needs) (λ c. search needs) (λ c. search needs) (λ c. search needs)
+    (λ c. search needs) (λ c. search needs) (λ c. search needs) returns cast-from-client cast-from-client-2 cast-from-client-3
+    (λ c. search needs) with-datagram-requires (λ c. search needs) returns-2)

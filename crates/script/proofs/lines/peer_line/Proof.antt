@@ -25,23 +25,6 @@ returns-2 c = peer-asks (c .before .before .before .before .before .before .befo
 pub peer-line-spec : {M : Type 1} → statement M
 peer-line-spec =
     tie.close
-    (tie.spec
-    (λ c. search needs)
-    (λ c. search needs)
-    (λ c. search needs)
-    (λ c. search needs)
-    (λ c. search needs)
-    (λ c. search needs)
-    (λ c. search needs)
-    (λ c. search needs)
-    (λ c. search needs)
-    (λ c. search needs)
-    (λ c. search needs)
-    (λ c. search needs)
-    returns
-    cast-from-peer
-    cast-from-peer-2
-    (λ c. search needs)
-    with-datagram-requires
-    (λ c. search needs)
-    returns-2)
+    (tie.spec (λ c. search needs) (λ c. search needs) (λ c. search needs) (λ c. search needs) (λ c. search needs) (λ c. search needs)
+    (λ c. search needs) (λ c. search needs) (λ c. search needs) (λ c. search needs) (λ c. search needs) (λ c. search needs) returns
+    cast-from-peer cast-from-peer-2 (λ c. search needs) with-datagram-requires (λ c. search needs) returns-2)

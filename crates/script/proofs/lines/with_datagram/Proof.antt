@@ -12,11 +12,4 @@ returns-2 c = reads-hex _ (c .before .before .before .before .before .before .be
 pub with-datagram-spec : {M : Type 1} → statement M
 with-datagram-spec =
     tie.close
-    (tie.spec
-    (λ c. search needs)
-    (λ c. search needs)
-    (λ c. search needs)
-    (λ c. search needs)
-    returns
-    (λ c. search needs)
-    returns-2)
+    (tie.spec (λ c. search needs) (λ c. search needs) (λ c. search needs) (λ c. search needs) returns (λ c. search needs) returns-2)

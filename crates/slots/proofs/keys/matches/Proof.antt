@@ -12,12 +12,4 @@ unfolding keyed
 returns-2 c = rw (c .before .before .key2 .given .1, ← c .holds-port .ensures)
 
 pub matches-spec : {M : Type 1} → statement M
-matches-spec =
-    tie.close
-    (tie.spec
-    (λ c. search needs)
-    (λ c. search needs)
-    (λ c. search needs)
-    (λ c. search needs)
-    returns
-    returns-2)
+matches-spec = tie.close (tie.spec (λ c. search needs) (λ c. search needs) (λ c. search needs) (λ c. search needs) returns returns-2)

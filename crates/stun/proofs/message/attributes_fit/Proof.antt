@@ -33,15 +33,5 @@ returns-2 c = sym (c .before .before .before .loop .inv ∙ walk-by _ _ _ _ _ (s
 pub attributes-fit-spec : {M : Type 1} → statement M
 attributes-fit-spec =
     tie.close
-    (tie.spec
-    Inv-loop
-    μ-loop
-    loop-holds
-    (λ c. search needs)
-    (λ c. search needs)
-    loop-less
-    loop-again
-    (λ c. search needs)
-    returns
-    (λ c. search needs)
-    returns-2)
+    (tie.spec Inv-loop μ-loop loop-holds (λ c. search needs) (λ c. search needs) loop-less loop-again (λ c. search needs) returns
+    (λ c. search needs) returns-2)

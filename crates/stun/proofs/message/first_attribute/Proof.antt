@@ -31,14 +31,5 @@ returns-2 c = seek-end (c .before .before .before .loop .inv) (c .before .before
 pub first-attribute-spec : {M : Type 1} → statement M
 first-attribute-spec =
     tie.close
-    (tie.spec
-    Inv-loop
-    μ-loop
-    loop-holds
-    (λ c. search needs)
-    (λ c. search needs)
-    returns
-    loop-less
-    loop-again
-    (λ c. search needs)
+    (tie.spec Inv-loop μ-loop loop-holds (λ c. search needs) (λ c. search needs) returns loop-less loop-again (λ c. search needs)
     returns-2)

@@ -19,13 +19,5 @@ returns-4 c = read-short _ _ (sym (c .before .before .step-at .ensures) ∙ c .e
 pub next-attribute-spec : {M : Type 1} → statement M
 next-attribute-spec =
     tie.close
-    (tie.spec
-    (λ c. search needs)
-    (λ c. search needs)
-    (λ c. search needs)
-    returns
-    (λ c. search needs)
-    (λ c. search needs)
-    returns-2
-    returns-3
-    returns-4)
+    (tie.spec (λ c. search needs) (λ c. search needs) (λ c. search needs) returns (λ c. search needs) (λ c. search needs) returns-2
+    returns-3 returns-4)

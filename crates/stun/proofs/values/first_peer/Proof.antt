@@ -13,12 +13,4 @@ unfolding firstPeer
 returns-2 c = rw (no-peer-left (c .before .before .before .next-peer .ensures) (c .before .enum-told .given .1)) (c .malformed .ensures)
 
 pub first-peer-spec : {M : Type 1} → statement M
-first-peer-spec =
-    tie.close
-    (tie.spec
-    (λ c. search needs)
-    (λ c. search needs)
-    (λ c. search needs)
-    (λ c. search needs)
-    returns
-    returns-2)
+first-peer-spec = tie.close (tie.spec (λ c. search needs) (λ c. search needs) (λ c. search needs) (λ c. search needs) returns returns-2)

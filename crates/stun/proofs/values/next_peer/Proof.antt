@@ -34,15 +34,5 @@ returns-2 c = peers-end (c .before .before .before .loop .inv) (c .before .befor
 pub next-peer-spec : {M : Type 1} → statement M
 next-peer-spec =
     tie.close
-    (tie.spec
-    Inv-loop
-    μ-loop
-    loop-holds
-    (λ c. search needs)
-    (λ c. search needs)
-    address-at-requires
-    returns
-    loop-less
-    loop-again
-    (λ c. search needs)
-    returns-2)
+    (tie.spec Inv-loop μ-loop loop-holds (λ c. search needs) (λ c. search needs) address-at-requires returns loop-less loop-again
+    (λ c. search needs) returns-2)

@@ -25,11 +25,4 @@ returns-3 c = (rw (← c .before .before .first-attribute .ensures, c .enum-told
 pub number-value-spec : {M : Type 1} → statement M
 number-value-spec =
     tie.close
-    (tie.spec
-    (λ c. search needs)
-    (λ c. search needs)
-    number-at-requires
-    returns
-    (λ c. search needs)
-    returns-2
-    returns-3)
+    (tie.spec (λ c. search needs) (λ c. search needs) number-at-requires returns (λ c. search needs) returns-2 returns-3)

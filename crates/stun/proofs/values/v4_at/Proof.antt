@@ -10,11 +10,5 @@ returns c = rw (← c .before .before .before .u32-at .ensures, ← c .before .b
 pub v4-at-spec : {M : Type 1} → statement M
 v4-at-spec =
     tie.close
-    (tie.spec
-    (λ c. search needs)
-    (λ c. search needs)
-    (λ c. search needs)
-    (λ c. search needs)
-    (λ c. search needs)
-    (λ c. search needs)
+    (tie.spec (λ c. search needs) (λ c. search needs) (λ c. search needs) (λ c. search needs) (λ c. search needs) (λ c. search needs)
     returns)

@@ -5,7 +5,9 @@ use Rattle.table.proofs.channels.bind.Tie as tie
 
 returns : tie.Need-returns
 unfolding bind
-returns c = rw (c .has .ensures, c .before .place-channel .ensures, c .before .before .channel-entry .ensures)
+returns c = rw (c .with-channels .ensures, c .before .has .ensures, c .before .before .place-channel .ensures, c .before .before .before .channel-entry .ensures)
 
 pub bind-spec : {M : Type 1} → statement M
-bind-spec = tie.close (tie.spec (λ c. search needs) (λ c. search needs) (λ c. search needs) (λ c. search needs) returns)
+bind-spec =
+    tie.close
+    (tie.spec (λ c. search needs) (λ c. search needs) (λ c. search needs) (λ c. search needs) (λ c. search needs) returns)

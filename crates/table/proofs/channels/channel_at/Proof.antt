@@ -20,13 +20,5 @@ returns-3 c = rw (c .before .enum-told .given .1) (c .fresh-channel2 .ensures)
 pub channel-at-spec : {M : Type 1} → statement M
 channel-at-spec =
     tie.close
-    (tie.spec
-    (λ c. search needs)
-    (λ c. search needs)
-    (λ c. search needs)
-    returns
-    (λ c. search needs)
-    returns-2
-    (λ c. search needs)
-    (λ c. search needs)
-    returns-3)
+    (tie.spec (λ c. search needs) (λ c. search needs) (λ c. search needs) returns (λ c. search needs) returns-2 (λ c. search needs)
+    (λ c. search needs) returns-3)

@@ -6,7 +6,7 @@ use Rattle.table.proofs.channels.channel_entry.Tie as tie
 
 returns : tie.Need-returns
 unfolding channelEntry entry
-returns c = rw (c .or-else .ensures, c .before .find-free-channel .ensures, c .before .before .channel-by-number .ensures)
+returns c = rw (c .or-else .ensures, c .before .search-channels .ensures, c .before .before .channel-by-number .ensures)
 
 pub channel-entry-spec : {M : Type 1} → statement M
 channel-entry-spec = tie.close (tie.spec (λ c. search needs) (λ c. search needs) (λ c. search needs) returns)

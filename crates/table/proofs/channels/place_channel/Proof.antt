@@ -19,11 +19,4 @@ returns-3 c = rw (c .enum-told .given .1)
 pub place-channel-spec : {M : Type 1} → statement M
 place-channel-spec =
     tie.close
-    (tie.spec
-    (λ c. search needs)
-    (λ c. search needs)
-    (λ c. search needs)
-    (λ c. search needs)
-    returns
-    returns-2
-    returns-3)
+    (tie.spec (λ c. search needs) (λ c. search needs) (λ c. search needs) (λ c. search needs) returns returns-2 returns-3)

@@ -6,7 +6,7 @@ use Rattle.table.proofs.permissions.permission_entry.Tie as tie
 
 returns : tie.Need-returns
 unfolding permissionEntry entry
-returns c = rw (c .or-else .ensures, c .before .find-free-permission .ensures, c .before .before .find-permission .ensures)
+returns c = rw (c .or-else .ensures, c .before .search-permissions .ensures, c .before .before .find-permission .ensures)
 
 pub permission-entry-spec : {M : Type 1} → statement M
 permission-entry-spec = tie.close (tie.spec (λ c. search needs) (λ c. search needs) (λ c. search needs) returns)

@@ -3,37 +3,28 @@ use mathlib.Core.Path.{_≡_}
 use lib.ListN.{length}
 use native.Mathlib.Omega.{arith}
 use borrow.Author.Tests.{le-leb, lt-leb}
-use Rattle.client_reader.specs.Reader.{dataOf}
+use Rattle.wire.specs.Wire.{partOf}
 use borrow.Author.Needs.{needs}
-use Rattle.client_reader.proofs.data_of.Statement.{statement}
-use Rattle.client_reader.proofs.data_of.Tie as tie
+use Rattle.wire.proofs.part.Statement.{statement}
+use Rattle.wire.proofs.part.Tie as tie
 
 returns : tie.Need-returns
-unfolding dataOf
+unfolding partOf
 returns c = let a = c .before .before .args in rw (lt-leb (a .start + a .len) (length (a .s .now)) (omega arith))
 
 returns-2 : tie.Need-returns-2
-unfolding dataOf
+unfolding partOf
 returns-2 c = let a = c .before .before .before .args in rw (lt-leb (a .start + a .len) (length (a .s .now)) (omega arith))
 
 returns-3 : tie.Need-returns-3
-unfolding dataOf
+unfolding partOf
 returns-3 c =
     let a = c .before .before .before .args in
     let e : a .start + a .len - a .start ≡ a .len = omega arith in
     rw (le-leb (a .start + a .len) (length (a .s .now)) (omega arith), e)
 
-pub data-of-spec : {M : Type 1} → statement M
-data-of-spec =
+pub part-spec : {M : Type 1} → statement M
+part-spec =
     tie.close
-    (tie.spec
-    (λ c. search needs)
-    returns
-    (λ c. search needs)
-    (λ c. search needs)
-    returns-2
-    (λ c. search needs)
-    (λ c. search needs)
-    (λ c. search needs)
-    (λ c. search needs)
-    returns-3)
+    (tie.spec (λ c. search needs) returns (λ c. search needs) (λ c. search needs) returns-2 (λ c. search needs) (λ c. search needs)
+    (λ c. search needs) (λ c. search needs) returns-3)
