@@ -8,10 +8,12 @@ pub const HELP: &str = "\
 relayd: the proved TURN relay on UDP sockets
 
     relayd [OPTION VALUE]...
+    relayd user add|remove|list ...     who may use it; relayd user says how
 
   --listen ADDRESS:PORT   the server's address, 127.0.0.1:3478 if not given; may be given twice, for IPv4 and IPv6
   --relay ADDRESS         the IPv4 address of the 128 relay ports 49152 to 49279; the IPv4 server's if not given
-  --user WHO              a number from 0 to 32 for all clients (0: nobody, who gets 401); or by-port, for tests;
+  --credentials FILE      check passwords: names, numbers and keys, made by relayd user add; not with --user
+  --user WHO              without passwords, a number from 0 to 32 for all clients (0: nobody, who gets 401); or by-port, for tests;
                           or a file with lines of address and number (others are nobody).
                           1 if not given and all listens are on loopback, else it must be given
   --log FILE              one line for each outcome, with why where the relay says so; - is standard error
@@ -29,6 +31,8 @@ arguments or unreadable files, and with 1 if a socket can't be bound or the rela
 pub enum Action {
     /// Print the help.
     Help,
+    /// Work on the credentials, by the words after `user`.
+    User(Vec<String>),
     /// Run with these.
     Run(Config),
 }
@@ -40,8 +44,10 @@ pub struct Config {
     pub listen: Vec<SocketAddr>,
     /// The address of the relay ports.
     pub relay: Ipv4Addr,
-    /// `--user`'s word.
+    /// `--user`'s word; nobody's where there are credentials.
     pub user: String,
+    /// The credentials' file.
+    pub credentials: Option<PathBuf>,
     /// Where the log goes.
     pub log: Option<PathBuf>,
     /// Where the listing goes.
@@ -58,6 +64,7 @@ struct Given {
     listen: Vec<SocketAddr>,
     relay: Option<Ipv4Addr>,
     user: Option<String>,
+    credentials: Option<PathBuf>,
     log: Option<PathBuf>,
     status: Option<PathBuf>,
     calls: Option<PathBuf>,
@@ -67,7 +74,10 @@ struct Given {
 /// Reads the arguments after the program's name.
 pub fn parse(arguments: impl IntoIterator<Item = String>) -> Result<Action, String> {
     let mut given = Given::default();
-    let mut arguments = arguments.into_iter();
+    let mut arguments = arguments.into_iter().peekable();
+    if arguments.next_if(|first| first == "user").is_some() {
+        return Ok(Action::User(arguments.collect()));
+    }
     while let Some(name) = arguments.next() {
         if name == "--help" || name == "-h" {
             return Ok(Action::Help);
@@ -81,7 +91,16 @@ pub fn parse(arguments: impl IntoIterator<Item = String>) -> Result<Action, Stri
     given.complete().map(Action::Run)
 }
 
-const KNOWN: [&str; 7] = ["--listen", "--relay", "--user", "--log", "--status", "--calls", "--clock-offset"];
+const KNOWN: [&str; 8] = [
+    "--listen",
+    "--relay",
+    "--user",
+    "--credentials",
+    "--log",
+    "--status",
+    "--calls",
+    "--clock-offset",
+];
 
 impl Given {
     fn take(&mut self, name: &str, value: String) -> Result<(), String> {
@@ -96,6 +115,7 @@ impl Given {
             }
             "--relay" => once(name, &mut self.relay, relay_address(&value)?),
             "--user" => once(name, &mut self.user, value),
+            "--credentials" => once(name, &mut self.credentials, value.into()),
             "--log" => once(name, &mut self.log, value.into()),
             "--status" => once(name, &mut self.status, value.into()),
             "--calls" => once(name, &mut self.calls, value.into()),
@@ -116,12 +136,17 @@ impl Given {
         });
         let relay = self.relay.or(first_ipv4).ok_or("--relay is needed where no --listen is IPv4")?;
         let loopback = self.listen.iter().all(|address| address.ip().is_loopback());
-        let default = if loopback { Some("1".to_string()) } else { None };
-        let open = "--user is needed where --listen isn't on loopback: who may use the relay?";
+        let default = match (&self.credentials, loopback) {
+            (Some(_), _) if self.user.is_some() => return Err("--credentials and --user are two ways to know a user: give one".to_string()),
+            (Some(_), _) => Some("0".to_string()),
+            (None, loopback) => loopback.then(|| "1".to_string()),
+        };
+        let open = "--credentials or --user is needed where --listen isn't on loopback: who may use the relay?";
         Ok(Config {
             listen: self.listen,
             relay,
             user: self.user.or(default).ok_or(open)?,
+            credentials: self.credentials,
             log: self.log,
             status: self.status,
             calls: self.calls,
@@ -175,7 +200,7 @@ mod tests {
     fn run(line: &str) -> Result<Config, String> {
         match parse(line.split_whitespace().map(String::from))? {
             Action::Run(config) => Ok(config),
-            Action::Help => Err("help".to_string()),
+            Action::Help | Action::User(_) => Err("not a run".to_string()),
         }
     }
 
@@ -223,10 +248,12 @@ mod tests {
         refused("--listen 127.0.0.1:1 --listen 127.0.0.2:1", "one IPv4 and one IPv6");
         refused("--listen [::1]:3478", "--relay is needed");
         refused("--listen 192.0.2.1:3478", "--user is needed");
+        assert!(run("--listen 192.0.2.1:3478 --credentials x").is_ok_and(|config| config.user == "0"));
         refused("--relay ::1", "IPv4");
         refused("--relay 0.0.0.0", "one IPv4 address");
         refused("--user 1 --user 2", "twice");
         refused("--clock-offset -5", "seconds");
+        refused("--user 1 --credentials x", "give one");
     }
 
     #[test]

@@ -1,6 +1,6 @@
 //! The relay's time: whole seconds of a monotonic clock since the start.
 
-use std::time::Instant;
+use std::time::{Instant, SystemTime, UNIX_EPOCH};
 
 /// A clock that never goes back.
 pub struct Clock {
@@ -20,6 +20,12 @@ impl Clock {
     /// The seconds since the start, and what tests have added.
     pub fn now(&self) -> u64 {
         self.start.elapsed().as_secs().saturating_add(self.ahead)
+    }
+
+    /// The Unix time in seconds, with what tests have added.
+    pub fn unix(&self) -> u64 {
+        let since = SystemTime::now().duration_since(UNIX_EPOCH).unwrap_or_default();
+        since.as_secs().saturating_add(self.ahead)
     }
 
     /// Puts the clock forward, for tests.

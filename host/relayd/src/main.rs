@@ -2,6 +2,7 @@
 
 mod args;
 mod clock;
+mod front;
 mod journal;
 mod line;
 mod log;
@@ -31,10 +32,8 @@ enum Trouble {
 fn main() -> ExitCode {
     let result = arguments().and_then(args::parse).map_err(Trouble::Setup);
     let done = result.and_then(|action| match action {
-        Action::Help => {
-            let _ = std::io::stdout().write_all(args::HELP.as_bytes());
-            Ok(())
-        }
+        Action::Help => print(args::HELP),
+        Action::User(words) => front::command(&words).map_err(Trouble::Setup).and_then(|text| print(&text)),
         Action::Run(config) => run(config),
     });
     match done {
@@ -50,6 +49,11 @@ fn main() -> ExitCode {
     }
 }
 
+fn print(text: &str) -> Result<(), Trouble> {
+    let _ = std::io::stdout().write_all(text.as_bytes());
+    Ok(())
+}
+
 fn arguments() -> Result<Vec<String>, String> {
     let text = |argument: std::ffi::OsString| {
         argument
@@ -63,7 +67,12 @@ fn run(config: Config) -> Result<(), Trouble> {
     let users = users::Users::from_word(&config.user).map_err(Trouble::Setup)?;
     let log = log::Log::open(config.log.as_deref()).map_err(Trouble::Setup)?;
     let path = args::find_calls(config.calls.as_deref(), env::current_exe().ok().as_deref()).map_err(Trouble::Setup)?;
-    let random = random::Random::open().map_err(|error| Trouble::Running(format!("no random source: {error}")))?;
+    let mut random = random::Random::open().map_err(|error| Trouble::Running(format!("no random source: {error}")))?;
+    let front = config
+        .credentials
+        .map(|path| front::Front::open(path, random.key()?))
+        .transpose()
+        .map_err(Trouble::Setup)?;
     let sockets = sockets::Sockets::bind(&config.listen, config.relay).map_err(Trouble::Running)?;
     let signals = sys::Signals::take().map_err(|error| Trouble::Running(format!("cannot take signals: {error}")))?;
     let relay = pipe::Pipe::start(&path, config.relay).map_err(Trouble::Setup)?;
@@ -73,6 +82,7 @@ fn run(config: Config) -> Result<(), Trouble> {
         relay,
         sockets,
         users,
+        front,
         log,
         random,
         clock: clock::Clock::new(),

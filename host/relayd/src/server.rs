@@ -1,6 +1,7 @@
 //! The loop: a datagram in, the relay's outcome, a datagram out. One thread, which owns the relay.
 
 use crate::clock::Clock;
+use crate::front::{Admission, Front, Moment};
 use crate::log::{Arrival, Log, say};
 use crate::random::Random;
 use crate::relay::{Failure, Outcome, Relay};
@@ -24,8 +25,10 @@ pub struct Server<R: Relay> {
     pub relay: R,
     /// The sockets.
     pub sockets: Sockets,
-    /// Who is who.
+    /// Who is who, by address.
     pub users: Users,
+    /// Who is who, by password.
+    pub front: Option<Front>,
     /// The log.
     pub log: Log,
     /// Port starts.
@@ -98,8 +101,34 @@ impl<R: Relay> Server<R> {
 
     fn client_datagram(&mut self, from: SocketAddr, datagram: &[u8]) -> Result<(), Failure> {
         let now = self.clock.now();
+        let unix = self.clock.unix();
+        let admission = self.front.as_mut().map(|front| front.admit(Moment { now, unix }, from, datagram));
+        let (user, signer) = match admission {
+            None => (self.users.of(from), None),
+            Some(Admission::Pass { user, signer }) => (user, signer),
+            Some(Admission::Reply { bytes, cause }) => {
+                let sent = self.sockets.to_client(from, &bytes);
+                self.log
+                    .note(now, &format!("client {from}: {} {cause} {sent:?}", cause.code().unwrap_or(0)));
+                return Ok(());
+            }
+            Some(Admission::Silence { cause, first }) => {
+                if first {
+                    self.log.note(now, &format!("client {from}: not answered, {cause}"));
+                }
+                return Ok(());
+            }
+        };
         let start = self.random.next().map_err(|error| Failure(format!("no random number: {error}")))?;
-        let outcome = self.relay.client(now, self.users.of(from), start, from, datagram)?;
+        let outcome = self.relay.client(now, user, start, from, datagram)?;
+        let signed = match (&outcome, signer) {
+            (Outcome::ToClient { bytes, .. }, Some(signer)) => Some(signer.sign(bytes)),
+            _ => None,
+        };
+        let outcome = match (outcome, &signed) {
+            (Outcome::ToClient { to, .. }, Some(bytes)) => Outcome::ToClient { to, bytes },
+            (outcome, _) => outcome,
+        };
         let sent = send(&self.sockets, &outcome);
         self.log.outcome(now, Arrival::Client(from), datagram.len(), &outcome, &sent);
         Ok(())

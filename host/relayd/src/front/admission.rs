@@ -1,0 +1,109 @@
+//! What becomes of a client's datagram at the front end, and why, in words for the log.
+
+use super::Signer;
+use std::fmt;
+
+/// When a datagram came.
+#[derive(Clone, Copy)]
+pub struct Moment {
+    /// In the relay's seconds.
+    pub now: u64,
+    /// In Unix seconds, for names with an expiry.
+    pub unix: u64,
+}
+
+/// What becomes of a datagram.
+pub enum Admission {
+    /// The front end answers with these bytes, and the relay never hears of it.
+    Reply { bytes: Vec<u8>, cause: Cause },
+    /// No answer: this source has had its share in this second. The first time in a second is told.
+    Silence { cause: Cause, first: bool },
+    /// The relay's, for this user (0: nobody); its response goes through the signer, where there is one.
+    Pass { user: u32, signer: Option<Signer> },
+}
+
+/// Why a request was not passed on.
+#[derive(Clone, Debug, PartialEq, Eq)]
+pub enum Cause {
+    /// It has no signature: a client's first request, as a rule.
+    Unsigned,
+    /// Its nonce is over, for another address, or of another start.
+    StaleNonce,
+    /// It has a signature, but not what belongs to it.
+    Malformed(&'static str),
+    /// Its realm is not ours.
+    OtherRealm,
+    /// Its name is in no line of the credentials.
+    UnknownName(String),
+    /// Its name had an expiry.
+    ExpiredName(String),
+    /// Its signature is not by that name's key.
+    WrongPassword(String),
+    /// Its source has failed so often that it was not looked at.
+    TooManyFailures,
+}
+
+impl Cause {
+    /// The error code of the answer; None where nothing was looked at.
+    pub fn code(&self) -> Option<u16> {
+        match self {
+            Cause::Malformed(_) => Some(400),
+            Cause::StaleNonce => Some(438),
+            Cause::TooManyFailures => None,
+            _ => Some(401),
+        }
+    }
+
+    /// Whether someone had credentials and they were wrong. A request without any, or with an old nonce, is every client's way in.
+    pub fn is_failure(&self) -> bool {
+        !matches!(self, Cause::Unsigned | Cause::StaleNonce | Cause::Malformed(_))
+    }
+
+    /// What it is counted under.
+    pub fn label(&self) -> &'static str {
+        match self {
+            Cause::Unsigned => "challenged",
+            Cause::StaleNonce => "stale nonce",
+            Cause::Malformed(_) => "malformed",
+            Cause::OtherRealm | Cause::UnknownName(_) => "unknown name",
+            Cause::ExpiredName(_) => "expired name",
+            Cause::WrongPassword(_) => "wrong password",
+            Cause::TooManyFailures => "not looked at",
+        }
+    }
+}
+
+impl fmt::Display for Cause {
+    fn fmt(&self, out: &mut fmt::Formatter<'_>) -> fmt::Result {
+        match self {
+            Cause::Unsigned => out.write_str("no credentials yet"),
+            Cause::StaleNonce => out.write_str("its nonce is over, for another address, or from before the start"),
+            Cause::Malformed(what) => out.write_str(what),
+            Cause::OtherRealm => out.write_str("another realm"),
+            Cause::UnknownName(name) => write!(out, "unknown user {name}"),
+            Cause::ExpiredName(name) => write!(out, "the time of user {name} is over"),
+            Cause::WrongPassword(name) => write!(out, "wrong password of user {name}"),
+            Cause::TooManyFailures => out.write_str("too many failures in this second; not looked at"),
+        }
+    }
+}
+
+/// A name as a stranger sent it, made fit for a line of the log.
+pub fn shown(name: &[u8]) -> String {
+    let text: String = String::from_utf8_lossy(name).chars().take(80).collect();
+    format!("'{}'", text.escape_default())
+}
+
+#[cfg(test)]
+mod tests {
+    use super::*;
+
+    #[test]
+    fn a_strangers_name_cannot_break_the_log() {
+        assert_eq!(
+            shown(b"alice\n1000 user 3 \x1b[2J'\xff"),
+            r"'alice\n1000 user 3 \u{1b}[2J\'\u{fffd}'"
+        );
+        assert!(shown(&[b'a'; 1000]).len() == 82);
+    }
+}
