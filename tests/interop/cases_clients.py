@@ -42,8 +42,8 @@ def coturn(lab):
         yield
 
 
-def aioice(lab, server, port):
-    done = lab.run("client", "/usr/bin/python3", HERE / "aioice_client.py", server, port, PEER, ECHO_PORT)
+def aioice(lab, server, port, *credentials):
+    done = lab.run("client", "/usr/bin/python3", HERE / "aioice_client.py", server, port, PEER, ECHO_PORT, *credentials)
     assert done.returncode == 0, done.stderr
     return done.stdout.split()
 

@@ -7,8 +7,10 @@ import shutil
 import signal
 import socket
 import subprocess
+import sys
 import tempfile
 import time
+import traceback
 
 import turn
 
@@ -34,6 +36,19 @@ def wait_for(test, what, seconds=10):
             return found
         time.sleep(0.01)
     raise AssertionError(f"{what} did not happen in {seconds} seconds")
+
+
+def attempt(case, *about):
+    """Runs a case, and says in a line how it went."""
+    begin = time.monotonic()
+    try:
+        note = case(*about)
+    except Exception:
+        traceback.print_exc(file=sys.stdout)
+        print(f"FAIL  {case.__doc__}", flush=True)
+        return False
+    print(f"ok    {case.__doc__}" + (f": {note}" if note else "") + f" ({time.monotonic() - begin:.1f} s)", flush=True)
+    return True
 
 
 def ip(*words):
@@ -148,7 +163,7 @@ class Lab:
             return turn.Client((server, PORT), local)
 
     def relayd_command(self, *options, listen=(f"{SERVER}:{PORT}", f"[{SERVER6}]:{PORT}"), user="by-port"):
-        words = [RELAYD, "--calls", CALLS, "--user", user]
+        words = [RELAYD, "--calls", CALLS, *(["--user", user] if user else [])]
         for address in listen:
             words += ["--listen", address]
         return words + list(options)
