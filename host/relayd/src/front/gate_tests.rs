@@ -511,3 +511,32 @@ fn bad_credentials_are_not_taken_over_good_ones() {
     let good = Ask::old(&front, NAME, PASSWORD).bytes();
     assert_eq!(passed(&mut front, &good).0, 3);
 }
+
+/// Not a check: what the gate costs, for docs/PERFORMANCE.md (make bench-front).
+#[test]
+#[ignore = "a measurement"]
+fn what_checking_costs() {
+    const TIMES: u32 = 20_000;
+    let mut front = front();
+    let mut response = request(9, &[]);
+    response[0] = 1;
+    let timed = b"1700000001:guest";
+    let password = timed_password(b"south", timed);
+    let cases = [
+        ("ChannelData, 1,200 bytes", [&[0x40, 0, 4, 172][..], &[0; 1196]].concat()),
+        ("a challenge", request(3, &[TRANSPORT])),
+        ("checked and signed by SHA-1", Ask::old(&front, NAME, PASSWORD).bytes()),
+        ("checked and signed by SHA-256", Ask::new(&front, NAME, PASSWORD).bytes()),
+        ("time-limited, the second of two secrets, SHA-1", Ask::old(&front, timed, password.as_bytes()).bytes()),
+    ];
+    for (what, datagram) in cases {
+        let begin = std::time::Instant::now();
+        for round in 0..TIMES {
+            let moment = Moment { now: MOMENT.now + u64::from(round) / 32, ..MOMENT };
+            if let Admission::Pass { signer: Some(signer), .. } = front.admit(moment, client(), &datagram) {
+                std::hint::black_box(signer.sign(&response));
+            }
+        }
+        println!("{:7} ns  {what}", begin.elapsed().as_nanos() / u128::from(TIMES));
+    }
+}
