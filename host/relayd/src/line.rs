@@ -1,6 +1,5 @@
 //! The lines of the proved program `calls`: written for a call, read for an answer.
 
-use std::io::Write;
 use std::net::{IpAddr, SocketAddr};
 
 /// An answer as it stands: `bytes` of it are in the buffer that `read` filled.
@@ -32,56 +31,84 @@ const VALUES: [u8; 256] = {
     values
 };
 
+/// The two digits of each byte.
+const PAIRS: [[u8; 2]; 256] = {
+    let mut pairs = [[0; 2]; 256];
+    let mut byte = 0;
+    while byte < 256 {
+        pairs[byte] = [DIGITS[byte >> 4], DIGITS[byte & 15]];
+        byte += 1;
+    }
+    pairs
+};
+
 /// Appends bytes as lower case hex digits.
 pub fn put_hex(line: &mut Vec<u8>, bytes: &[u8]) {
     let begin = line.len();
     line.resize(begin + 2 * bytes.len(), 0);
-    let (pairs, _) = line[begin..].as_chunks_mut();
-    for (pair, byte) in pairs.iter_mut().zip(bytes) {
-        *pair = [DIGITS[usize::from(byte >> 4)], DIGITS[usize::from(byte & 15)]];
+    for (pair, byte) in line[begin..].chunks_exact_mut(2).zip(bytes) {
+        pair.copy_from_slice(&PAIRS[usize::from(*byte)]);
     }
 }
 
-fn put_address(line: &mut Vec<u8>, address: IpAddr) {
-    match address {
+/// Appends a number and a tab.
+fn put_number(line: &mut Vec<u8>, mut number: u64) {
+    let mut digits = [b'\t'; 21];
+    let mut begin = 20;
+    loop {
+        begin -= 1;
+        digits[begin] = DIGITS[usize::from((number % 10) as u8)];
+        number /= 10;
+        if number == 0 {
+            return line.extend_from_slice(&digits[begin..]);
+        }
+    }
+}
+
+/// Appends an address and a port, with their tabs.
+fn put_place(line: &mut Vec<u8>, place: SocketAddr) {
+    match place.ip() {
         IpAddr::V4(ip) => put_hex(line, &ip.octets()),
         IpAddr::V6(ip) => put_hex(line, &ip.octets()),
     }
+    line.push(b'\t');
+    put_number(line, place.port().into());
 }
 
-/// The line of a client's datagram.
-pub fn client(line: &mut Vec<u8>, now: u64, user: u32, start: u32, from: SocketAddr, datagram: &[u8]) {
-    line.clear();
-    // Writing to a vector never fails.
-    let _ = write!(line, "Q\t{now}\t{user}\t{start}\t");
-    put_address(line, from.ip());
-    let _ = write!(line, "\t{}\t", from.port());
-    put_hex(line, datagram);
-    line.push(b'\n');
+/// Appends the line of a client's datagram.
+pub fn client(lines: &mut Vec<u8>, now: u64, user: u32, start: u32, from: SocketAddr, datagram: &[u8]) {
+    lines.extend_from_slice(b"Q\t");
+    put_number(lines, now);
+    put_number(lines, user.into());
+    put_number(lines, start.into());
+    put_place(lines, from);
+    put_hex(lines, datagram);
+    lines.push(b'\n');
 }
 
-/// The line of a peer's datagram.
-pub fn peer(line: &mut Vec<u8>, now: u64, from: SocketAddr, relay_port: u16, datagram: &[u8]) {
-    line.clear();
-    let _ = write!(line, "P\t{now}\t");
-    put_address(line, from.ip());
-    let _ = write!(line, "\t{}\t{relay_port}\t", from.port());
-    put_hex(line, datagram);
-    line.push(b'\n');
+/// Appends the line of a peer's datagram.
+pub fn peer(lines: &mut Vec<u8>, now: u64, from: SocketAddr, relay_port: u16, datagram: &[u8]) {
+    lines.extend_from_slice(b"P\t");
+    put_number(lines, now);
+    put_place(lines, from);
+    put_number(lines, relay_port.into());
+    put_hex(lines, datagram);
+    lines.push(b'\n');
 }
 
-/// Reads an answer without its newline, and its bytes into `bytes`. None where it is of no form.
+/// Reads an answer without its newline, and puts its bytes behind `bytes`. None where it is of no form.
 pub fn read(line: &[u8], bytes: &mut Vec<u8>) -> Option<Answer> {
-    let fields: Vec<&[u8]> = line.split(|&byte| byte == b'\t').collect();
-    match fields[..] {
-        [b"D"] => Some(Answer::Dropped),
-        [b"E"] => Some(Answer::NotTaken),
-        [b"R", number] => decimal(number).map(Answer::Refused),
-        [b"S", address, port, hex] => {
+    let mut fields = line.splitn(5, |&byte| byte == b'\t');
+    let mut field = || fields.next();
+    match (field()?, field(), field(), field(), field()) {
+        (b"D", None, ..) => Some(Answer::Dropped),
+        (b"E", None, ..) => Some(Answer::NotTaken),
+        (b"R", Some(number), None, ..) => decimal(number).map(Answer::Refused),
+        (b"S", Some(address), Some(port), Some(hex), None) => {
             read_hex(hex, bytes)?;
             Some(Answer::ToClient(place(address, port)?))
         }
-        [b"F", relay_port, address, port, hex] => {
+        (b"F", Some(relay_port), Some(address), Some(port), Some(hex)) => {
             read_hex(hex, bytes)?;
             Some(Answer::ToPeer(decimal(relay_port)?, place(address, port)?))
         }
@@ -90,12 +117,12 @@ pub fn read(line: &[u8], bytes: &mut Vec<u8>) -> Option<Answer> {
 }
 
 /// A decimal number that fits its type.
-pub fn decimal<T: std::str::FromStr>(text: &[u8]) -> Option<T> {
+fn decimal<T: std::str::FromStr>(text: &[u8]) -> Option<T> {
     std::str::from_utf8(text).ok()?.parse().ok()
 }
 
 /// An address and a port.
-pub fn place(address: &[u8], port: &[u8]) -> Option<SocketAddr> {
+fn place(address: &[u8], port: &[u8]) -> Option<SocketAddr> {
     let mut bytes = Vec::with_capacity(16);
     read_hex(address, &mut bytes)?;
     let ip = match <[u8; 4]>::try_from(&bytes[..]) {
@@ -105,17 +132,17 @@ pub fn place(address: &[u8], port: &[u8]) -> Option<SocketAddr> {
     Some(SocketAddr::new(ip, decimal(port)?))
 }
 
-/// Reads hex digits, two a byte, into `bytes`.
+/// Reads hex digits, two a byte, behind `bytes`.
 pub fn read_hex(text: &[u8], bytes: &mut Vec<u8>) -> Option<()> {
-    let (pairs, rest) = text.as_chunks();
-    bytes.resize(pairs.len(), 0);
+    let begin = bytes.len();
+    bytes.resize(begin + text.len() / 2, 0);
     let mut seen = 0;
-    for (byte, [high, low]) in bytes.iter_mut().zip(pairs) {
-        let (high, low) = (VALUES[usize::from(*high)], VALUES[usize::from(*low)]);
+    for (byte, pair) in bytes[begin..].iter_mut().zip(text.chunks_exact(2)) {
+        let (high, low) = (VALUES[usize::from(pair[0])], VALUES[usize::from(pair[1])]);
         seen |= high | low;
         *byte = high << 4 | low & 15;
     }
-    (seen < NONE && rest.is_empty()).then_some(())
+    (seen < NONE && text.len() % 2 == 0).then_some(())
 }
 
 #[cfg(test)]
@@ -131,8 +158,10 @@ mod tests {
         let mut line = Vec::new();
         client(&mut line, 1000, 3, 5, at("198.51.100.7:40000"), &[0, 3, 0xff]);
         assert_eq!(line, b"Q\t1000\t3\t5\tc6336407\t40000\t0003ff\n");
+        line.clear();
         peer(&mut line, 1309, at("192.0.2.150:5000"), 49157, b"hi");
         assert_eq!(line, b"P\t1309\tc0000296\t5000\t49157\t6869\n");
+        line.clear();
         client(&mut line, 0, 0, u32::MAX, at("[fd00::1]:1"), b"");
         assert_eq!(line, b"Q\t0\t0\t4294967295\tfd000000000000000000000000000001\t1\t\n");
     }
@@ -145,10 +174,10 @@ mod tests {
         assert_eq!(read(b"R\t4", &mut bytes), Some(Answer::Refused(4)));
         let to_client = read(b"S\tfd000000000000000000000000000001\t40000\t01fe", &mut bytes);
         assert_eq!(to_client, Some(Answer::ToClient(at("[fd00::1]:40000"))));
-        assert_eq!(bytes, [1, 0xfe]);
+        assert_eq!(bytes, [9, 1, 0xfe]);
         let to_peer = read(b"F\t49157\tc0000296\t5000\t", &mut bytes);
         assert_eq!(to_peer, Some(Answer::ToPeer(49157, at("192.0.2.150:5000"))));
-        assert!(bytes.is_empty());
+        assert_eq!(bytes.len(), 3);
     }
 
     #[test]

@@ -1,6 +1,6 @@
 //! In the place of the front end where relayd is built without it: there is none, and it says so.
 
-use super::admission::{Admission, Cause, Moment};
+use super::verdict::{Moment, Verdict};
 use std::net::SocketAddr;
 use std::path::PathBuf;
 
@@ -11,6 +11,7 @@ const WHY: &str = "this relayd is built without the front end, so it checks no p
 pub enum Front {}
 
 /// There is none.
+#[derive(Debug, PartialEq, Eq)]
 pub enum Signer {}
 
 /// `relayd user ..`: says why not.
@@ -25,12 +26,17 @@ impl Front {
     }
 
     /// Never called.
-    pub fn admit(&mut self, _moment: Moment, _from: SocketAddr, _datagram: &[u8]) -> Admission {
+    pub fn admit(&mut self, _moment: Moment, _from: SocketAddr, _datagram: &[u8]) -> Verdict {
         match *self {}
     }
 
     /// Never called.
     pub fn reload(&mut self) -> Result<String, String> {
+        match *self {}
+    }
+
+    /// Never called.
+    pub fn name_of(&self, _user: u32) -> Option<&str> {
         match *self {}
     }
 
@@ -54,6 +60,7 @@ impl Signer {
 
 #[cfg(test)]
 mod tests {
+    use super::super::verdict::Cause;
     use super::*;
 
     #[test]

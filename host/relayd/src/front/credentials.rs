@@ -2,7 +2,7 @@
 
 use super::keys::{Keys, timed_password, userhash};
 use crate::line::{put_hex, read_hex};
-use std::collections::HashMap;
+use std::collections::{BTreeMap, HashMap};
 use std::fs::File;
 use std::io::Read;
 use std::os::unix::fs::MetadataExt;
@@ -10,15 +10,20 @@ use std::path::Path;
 
 /// The highest user number that document 01 takes.
 const LAST: u32 = 32;
-/// The longest realm, name or secret, so that every challenge stays short.
+/// The longest realm or name, so that every challenge stays short.
 const LONGEST: usize = 64;
+/// The longest secret.
+const LONGEST_SECRET: usize = 512;
 
 /// What the file says.
 pub struct Credentials {
     /// The realm of every key in the file.
     pub realm: String,
     users: HashMap<Vec<u8>, User>,
-    names: HashMap<[u8; 32], Vec<u8>>,
+    /// The names behind their hashes.
+    hashed: HashMap<[u8; 32], Vec<u8>>,
+    /// The names of each number, for people.
+    of_numbers: BTreeMap<u32, String>,
     secrets: Vec<String>,
     others: Option<u32>,
 }
@@ -38,8 +43,10 @@ pub enum Claimed<'a> {
     Hash(&'a [u8]),
 }
 
-/// Who may be behind a claim: one number, and the keys of which one must have signed.
-pub struct Candidate {
+/// Who may be behind a claim: one name and number, and the keys of which one must have signed.
+pub struct Candidate<'a> {
+    /// The name, as the file or the client has it.
+    pub name: &'a [u8],
     /// The user number.
     pub number: u32,
     /// One set of keys, or one for each secret.
@@ -77,7 +84,8 @@ impl Credentials {
         let realm = read.realm.ok_or((1, "no line 'realm REALM'".to_string()))?;
         let hashed = |name: &Vec<u8>| (userhash(name, realm.as_bytes()), name.clone());
         Ok(Credentials {
-            names: read.users.keys().map(hashed).collect(),
+            hashed: read.users.keys().map(hashed).collect(),
+            of_numbers: by_number(&read.users),
             realm,
             users: read.users,
             secrets: read.secrets,
@@ -86,16 +94,14 @@ impl Credentials {
     }
 
     /// Who may be behind a claim, at this time in Unix seconds.
-    pub fn find(&self, claimed: Claimed, unix: u64) -> Result<Candidate, Nobody> {
+    pub fn find<'a>(&'a self, claimed: Claimed<'a>, unix: u64) -> Result<Candidate<'a>, Nobody> {
         let name = match claimed {
             Claimed::Name(name) => name,
-            Claimed::Hash(hash) => <[u8; 32]>::try_from(hash)
-                .ok()
-                .and_then(|hash| self.names.get(&hash))
-                .ok_or(Nobody::Unknown)?,
+            Claimed::Hash(hash) => self.hashed.get(hash).ok_or(Nobody::Unknown)?,
         };
         match self.users.get(name) {
             Some(User { number, keys: Some(keys) }) => Ok(Candidate {
+                name,
                 number: *number,
                 keys: vec![keys.clone()],
             }),
@@ -105,7 +111,7 @@ impl Credentials {
     }
 
     /// A name of the form EXPIRY or EXPIRY:NAME, as applications with a shared secret hand them out.
-    fn find_timed(&self, name: &[u8], unix: u64) -> Result<Candidate, Nobody> {
+    fn find_timed<'a>(&self, name: &'a [u8], unix: u64) -> Result<Candidate<'a>, Nobody> {
         let end = name.iter().position(|&byte| byte == b':').unwrap_or(name.len());
         let (digits, rest) = name.split_at(end);
         let expiry = expiry(digits).filter(|_| !self.secrets.is_empty()).ok_or(Nobody::Unknown)?;
@@ -118,10 +124,13 @@ impl Credentials {
             let password = timed_password(secret.as_bytes(), name);
             Keys::derive(name, self.realm.as_bytes(), password.as_bytes())
         };
-        Ok(Candidate {
-            number,
-            keys: self.secrets.iter().map(derive).collect(),
-        })
+        let keys = self.secrets.iter().map(derive).collect();
+        Ok(Candidate { name, number, keys })
+    }
+
+    /// The names that have this number, for people.
+    pub fn name_of(&self, number: u32) -> Option<&str> {
+        self.of_numbers.get(&number).map(String::as_str)
     }
 
     /// How many users and secrets there are, for people.
@@ -138,6 +147,19 @@ impl Credentials {
     pub fn free_number(&self) -> Option<u32> {
         (1..=LAST).find(|number| !self.users.values().any(|user| user.number == *number) && self.others != Some(*number))
     }
+}
+
+/// The names of each number, in their order.
+fn by_number(users: &HashMap<Vec<u8>, User>) -> BTreeMap<u32, String> {
+    let mut sorted: Vec<(&Vec<u8>, &User)> = users.iter().collect();
+    sorted.sort_by_key(|(name, _)| *name);
+    let mut names = BTreeMap::<u32, String>::new();
+    for (name, user) in sorted {
+        let told = names.entry(user.number).or_default();
+        let comma = if told.is_empty() { "" } else { ", " };
+        *told = format!("{told}{comma}{}", String::from_utf8_lossy(name));
+    }
+    names
 }
 
 /// A line of the file for a name with a password.
@@ -166,7 +188,7 @@ pub fn number(word: &str) -> Result<u32, String> {
     }
 }
 
-/// A realm, name or secret: characters that need no preparation, and none that parts the words of a file or of a key.
+/// A realm or name: characters that need no preparation, and none that parts the words of a file or of a key.
 pub fn word(what: &str, word: &str) -> Result<String, String> {
     if word.is_empty() || word.len() > LONGEST {
         return Err(format!("a {what} has 1 to {LONGEST} characters"));
@@ -204,8 +226,8 @@ impl Reading {
             [] => Ok(()),
             ["realm", realm] => once("realm", self.realm.replace(word("realm", realm)?).is_some()),
             ["others", user] => once("others", self.others.replace(number(user)?).is_some()),
-            ["secret", secret] => {
-                self.secrets.push(word("secret", secret)?);
+            ["secret", secret] if secret.len() <= LONGEST_SECRET => {
+                self.secrets.push(secret.to_string());
                 Ok(())
             }
             ["user", name, user] => self.user(name, user, None),
@@ -343,6 +365,13 @@ mod tests {
         for mode in [0o644, 0o660, 0o604, 0o620, 0o602] {
             assert!(private(mode).expect_err("too open").contains("chmod"), "{mode:o}");
         }
+    }
+
+    #[test]
+    fn names_that_share_a_number_are_told_together() {
+        let shared = Credentials::parse("realm a\nuser carol 3\nuser bob 3\nuser dave 4\n").expect("a good file");
+        assert_eq!(shared.name_of(3), Some("bob, carol"));
+        assert_eq!((shared.name_of(4), shared.name_of(5)), (Some("dave"), None));
     }
 
     #[test]

@@ -1,12 +1,12 @@
 //! The gate: RFC 8489's checks of a request in their order, the challenges, and who is slowed.
 
-use super::admission::{Admission, Cause, Moment, shown};
 use super::credentials::{Claimed, Credentials, Nobody};
 use super::keys::Keys;
 use super::limits::{Limits, Standing};
 use super::message::{NONCE, PASSWORD_ALGORITHM, PASSWORD_ALGORITHMS, REALM, Request, USERHASH, USERNAME};
 use super::nonce::Nonces;
-use super::signature::Signer;
+use super::signature::{Signature, Signer};
+use super::verdict::{Cause, Known, Moment, Verdict, shown};
 use std::collections::BTreeMap;
 use std::net::SocketAddr;
 use std::path::PathBuf;
@@ -21,8 +21,6 @@ const MD5: [u8; 4] = [0, 1, 0, 0];
 pub const CHALLENGES: u32 = 50;
 /// How many wrong credentials from one source are looked at in a second.
 pub const FAILURES: u32 = 5;
-/// Document 01's number of who is not authenticated.
-const NOBODY: u32 = 0;
 
 /// The front end.
 pub struct Front {
@@ -75,6 +73,11 @@ impl Front {
         Ok(self.told())
     }
 
+    /// The names that have this number.
+    pub fn name_of(&self, user: u32) -> Option<&str> {
+        self.credentials.name_of(user)
+    }
+
     /// The credentials in a few words, without a secret.
     pub fn told(&self) -> String {
         self.credentials.told()
@@ -86,18 +89,14 @@ impl Front {
     }
 
     /// What becomes of a client's datagram. All but the four requests pass at once, as nobody's: the relay asks no user for them.
-    pub fn admit(&mut self, moment: Moment, from: SocketAddr, datagram: &[u8]) -> Admission {
+    pub fn admit(&mut self, moment: Moment, from: SocketAddr, datagram: &[u8]) -> Verdict {
         let Some(request) = Request::read(datagram) else {
-            return Admission::Pass {
-                user: NOBODY,
-                signer: None,
-            };
+            return Verdict::Pass(None);
         };
         match self.check(moment, from, &request) {
-            Ok((user, signer)) => {
+            Ok(known) => {
                 self.count("passed");
-                let signer = Some(signer);
-                Admission::Pass { user, signer }
+                Verdict::Pass(Some(known))
             }
             Err(cause) => self.turn_away(moment.now, from, &request, cause),
         }
@@ -105,7 +104,7 @@ impl Front {
 
     /// RFC 8489 section 9.2.4, in its order but for the nonce: it is looked at before the password, so that only who has been answered at
     /// an address can try one, and failures are counted where they belong.
-    fn check(&self, moment: Moment, from: SocketAddr, request: &Request) -> Result<(u32, Signer), Cause> {
+    fn check(&self, moment: Moment, from: SocketAddr, request: &Request) -> Result<Known, Cause> {
         let signature = request.signature().ok_or(Cause::Unsigned)?;
         let claim = Claim::read(request)?;
         if signature.value.len() != signature.algorithm.size() {
@@ -121,14 +120,23 @@ impl Front {
         if claim.realm != self.credentials.realm.as_bytes() {
             return Err(Cause::OtherRealm);
         }
-        let found = self.credentials.find(claim.claimed, moment.unix);
+        self.sign_in(moment.unix, &claim, kind, &signature)
+    }
+
+    /// Whose signature it is. One of a name that is not there is checked too, against keys that nobody has.
+    fn sign_in(&self, unix: u64, claim: &Claim, kind: KeyKind, signature: &Signature) -> Result<Known, Cause> {
+        let found = self.credentials.find(claim.claimed, unix);
         let candidates = found.as_ref().map_or(std::slice::from_ref(&self.nobody), |found| &found.keys);
         let signing = candidates.iter().map(|keys| kind.of_keys(keys)).find(|key| signature.is_by(key));
         match (&found, signing) {
-            (Ok(found), Some(key)) => {
-                let (algorithm, key) = (signature.algorithm, key.to_vec());
-                Ok((found.number, Signer { algorithm, key }))
-            }
+            (Ok(found), Some(key)) => Ok(Known {
+                user: found.number,
+                name: String::from_utf8_lossy(found.name).into_owned(),
+                signer: Signer {
+                    algorithm: signature.algorithm,
+                    key: key.to_vec(),
+                },
+            }),
             (Ok(_), None) => Err(Cause::WrongPassword(claim.shown())),
             (Err(Nobody::Expired), _) => Err(Cause::ExpiredName(claim.shown())),
             (Err(Nobody::Unknown), _) => Err(Cause::UnknownName(claim.shown())),
@@ -136,7 +144,7 @@ impl Front {
     }
 
     /// Answers a request that is not passed on, if its source still has answers in this second.
-    fn turn_away(&mut self, now: u64, from: SocketAddr, request: &Request, cause: Cause) -> Admission {
+    fn turn_away(&mut self, now: u64, from: SocketAddr, request: &Request, cause: Cause) -> Verdict {
         self.count(cause.label());
         let limit = if cause.is_failure() {
             &mut self.failures
@@ -145,13 +153,13 @@ impl Front {
         };
         match (limit.count(now, from.ip()), cause.code()) {
             (Standing::Within, Some(code)) => {
-                let bytes = self.answer(now, from, request, code);
-                Admission::Reply { bytes, cause }
+                let response = self.answer(now, from, request, code);
+                Verdict::Reply { response, cause }
             }
             (standing, _) => {
                 self.count("not answered");
                 let first = standing == Standing::FirstOver;
-                Admission::Silence { cause, first }
+                Verdict::Silence { cause, first }
             }
         }
     }

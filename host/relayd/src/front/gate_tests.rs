@@ -2,10 +2,9 @@
 
 use super::super::credentials::user_line;
 use super::super::keys::{timed_password, userhash};
-use super::super::message::tests::request;
-use super::super::message::{INTEGRITY, INTEGRITY_SHA256, append, length_field};
 use super::super::signature::Algorithm;
 use super::*;
+use crate::stun::{self, MESSAGE_INTEGRITY, MESSAGE_INTEGRITY_SHA256, append, length_field, request};
 
 const NAME: &[u8] = b"alice";
 const REALM_NAME: &[u8] = b"example.org";
@@ -33,7 +32,7 @@ fn client() -> SocketAddr {
 
 /// A request of a client, which a test changes where it wants it wrong.
 struct Ask {
-    kind: u8,
+    kind: u16,
     identity: Vec<(u16, Vec<u8>)>,
     nonce: Vec<u8>,
     choice: Vec<(u16, Vec<u8>)>,
@@ -81,9 +80,9 @@ impl Ask {
 fn sign(message: &[u8], algorithm: Algorithm, key: &[u8]) -> Vec<u8> {
     let size = algorithm.size();
     let kind = if algorithm == Algorithm::Sha1 {
-        INTEGRITY
+        MESSAGE_INTEGRITY
     } else {
-        INTEGRITY_SHA256
+        MESSAGE_INTEGRITY_SHA256
     };
     let mut longer = message.to_vec();
     longer[2..4].copy_from_slice(&length_field(message.len() - 20 + 4 + size));
@@ -95,20 +94,17 @@ fn sign(message: &[u8], algorithm: Algorithm, key: &[u8]) -> Vec<u8> {
 
 fn passed(front: &mut Front, datagram: &[u8]) -> (u32, Signer) {
     match front.admit(MOMENT, client(), datagram) {
-        Admission::Pass {
-            user,
-            signer: Some(signer),
-        } => (user, signer),
-        Admission::Pass { .. } => panic!("passed without a signer"),
-        Admission::Reply { cause, .. } | Admission::Silence { cause, .. } => panic!("turned away: {cause}"),
+        Verdict::Pass(Some(known)) => (known.user, known.signer),
+        Verdict::Pass(None) => panic!("passed as nobody's"),
+        Verdict::Reply { cause, .. } | Verdict::Silence { cause, .. } => panic!("turned away: {cause}"),
     }
 }
 
 fn refused_at(front: &mut Front, moment: Moment, from: SocketAddr, datagram: &[u8]) -> (Vec<u8>, Cause) {
     match front.admit(moment, from, datagram) {
-        Admission::Reply { bytes, cause } => (bytes, cause),
-        Admission::Silence { cause, .. } => panic!("no answer: {cause}"),
-        Admission::Pass { user, .. } => panic!("passed as {user}"),
+        Verdict::Reply { response, cause } => (response, cause),
+        Verdict::Silence { cause, .. } => panic!("no answer: {cause}"),
+        Verdict::Pass(_) => panic!("passed"),
     }
 }
 
@@ -138,8 +134,8 @@ fn a_request_without_a_signature_is_challenged() {
         let bare = request(kind, &[TRANSPORT]);
         let (response, cause) = refused(&mut front, &bare);
         assert_eq!(
-            (response[..2].to_vec(), code(&response), cause),
-            (vec![1, kind | 0x10], 401, Cause::Unsigned)
+            (stun::kind(&response), code(&response), cause),
+            (kind | 0x0110, 401, Cause::Unsigned)
         );
         assert_eq!(response[4..20], bare[4..20]);
         assert_challenge(&front, &response);
@@ -153,7 +149,7 @@ fn an_answer_brings_little_more_than_was_asked() {
     let mut front = front();
     let smallest = request(3, &[]);
     assert_eq!(refused(&mut front, &smallest).0.len(), 28 + 16 + 52 + 12);
-    let unfinished = request(3, &[(INTEGRITY, &[0; 20])]);
+    let unfinished = request(3, &[(MESSAGE_INTEGRITY, &[0; 20])]);
     assert_eq!(refused(&mut front, &unfinished).0.len(), 28);
 }
 
@@ -322,9 +318,9 @@ fn a_cut_signature_is_a_bad_request_and_a_second_one_does_not_count() {
     for ask in [Ask::old(&front, NAME, PASSWORD), Ask::new(&front, NAME, PASSWORD)] {
         let whole = ask.bytes();
         let (kind, value) = if ask.algorithm == Algorithm::Sha1 {
-            (INTEGRITY, 20)
+            (MESSAGE_INTEGRITY, 20)
         } else {
-            (INTEGRITY_SHA256, 32)
+            (MESSAGE_INTEGRITY_SHA256, 32)
         };
         for kept in [0, 4, 16, value - 4] {
             let mut cut = ask.unsigned();
@@ -348,7 +344,7 @@ fn of_both_signatures_the_one_by_sha256_counts() {
     let both = sign(&ask.bytes(), Algorithm::Sha256, &ask.key);
     assert_eq!(passed(&mut front, &both).1.algorithm, Algorithm::Sha256);
     let mut forged = ask.bytes();
-    append(&mut forged, INTEGRITY_SHA256, &[0; 32]);
+    append(&mut forged, MESSAGE_INTEGRITY_SHA256, &[0; 32]);
     assert!(refused(&mut front, &forged).1.is_failure());
 }
 
@@ -372,9 +368,9 @@ fn every_changed_byte_of_a_good_request_is_turned_away() {
             changed[place] ^= 0x04;
             match front.admit(MOMENT, client(), &changed) {
                 // No longer one of the four requests: the relay hears it as nobody's.
-                Admission::Pass { user, signer } => assert!(user == 0 && signer.is_none(), "byte {place}"),
-                Admission::Reply { .. } => (),
-                Admission::Silence { .. } => panic!("byte {place}"),
+                Verdict::Pass(known) => assert!(known.is_none(), "byte {place}"),
+                Verdict::Reply { .. } => (),
+                Verdict::Silence { .. } => panic!("byte {place}"),
             }
         }
     }
@@ -387,10 +383,7 @@ fn data_and_other_messages_pass_as_nobodys() {
     let binding = request(1, &[]);
     let cut = &Ask::old(&front, NAME, PASSWORD).bytes()[..60];
     for datagram in [&[0x40, 0, 0, 2, b'h', b'i'][..], &indication, &binding, cut, b"", b"GET / HTTP/1.1"] {
-        assert!(matches!(
-            front.admit(MOMENT, client(), datagram),
-            Admission::Pass { user: 0, signer: None }
-        ));
+        assert!(matches!(front.admit(MOMENT, client(), datagram), Verdict::Pass(None)));
     }
     assert_eq!(front.counts(), []);
 }
@@ -417,8 +410,8 @@ fn nothing_made_up_passes_as_somebody() {
             now: MOMENT.now + round / 8,
             ..MOMENT
         };
-        if let Admission::Pass { user, .. } = front.admit(moment, client(), &datagram) {
-            assert!(user == 0 || datagram == good, "round {round}");
+        if let Verdict::Pass(Some(_)) = front.admit(moment, client(), &datagram) {
+            assert!(datagram == good, "round {round}");
         }
     }
 }
@@ -428,10 +421,10 @@ fn tally(front: &mut Front, from: SocketAddr, datagram: &[u8], times: u32) -> (u
     let mut seen = (0, 0, 0);
     for _ in 0..times {
         match front.admit(MOMENT, from, datagram) {
-            Admission::Reply { .. } => seen.0 += 1,
-            Admission::Silence { first: true, .. } => seen.1 += 1,
-            Admission::Silence { .. } => seen.2 += 1,
-            Admission::Pass { .. } => panic!("passed"),
+            Verdict::Reply { .. } => seen.0 += 1,
+            Verdict::Silence { first: true, .. } => seen.1 += 1,
+            Verdict::Silence { .. } => seen.2 += 1,
+            Verdict::Pass(_) => panic!("passed"),
         }
     }
     seen
@@ -463,7 +456,7 @@ fn a_guesser_is_slowed_and_even_a_right_guess_waits() {
         now: MOMENT.now + 1,
         ..MOMENT
     };
-    assert!(matches!(front.admit(next, client(), &right), Admission::Pass { user: 3, .. }));
+    assert!(matches!(front.admit(next, client(), &right), Verdict::Pass(Some(_))));
 }
 
 #[test]
@@ -527,14 +520,20 @@ fn what_checking_costs() {
         ("a challenge", request(3, &[TRANSPORT])),
         ("checked and signed by SHA-1", Ask::old(&front, NAME, PASSWORD).bytes()),
         ("checked and signed by SHA-256", Ask::new(&front, NAME, PASSWORD).bytes()),
-        ("time-limited, the second of two secrets, SHA-1", Ask::old(&front, timed, password.as_bytes()).bytes()),
+        (
+            "time-limited, the second of two secrets, SHA-1",
+            Ask::old(&front, timed, password.as_bytes()).bytes(),
+        ),
     ];
     for (what, datagram) in cases {
         let begin = std::time::Instant::now();
         for round in 0..TIMES {
-            let moment = Moment { now: MOMENT.now + u64::from(round) / 32, ..MOMENT };
-            if let Admission::Pass { signer: Some(signer), .. } = front.admit(moment, client(), &datagram) {
-                std::hint::black_box(signer.sign(&response));
+            let moment = Moment {
+                now: MOMENT.now + u64::from(round) / 32,
+                ..MOMENT
+            };
+            if let Verdict::Pass(Some(known)) = front.admit(moment, client(), &datagram) {
+                std::hint::black_box(known.signer.sign(&response));
             }
         }
         println!("{:7} ns  {what}", begin.elapsed().as_nanos() / u128::from(TIMES));

@@ -1,25 +1,14 @@
-//! STUN messages as the front end needs them: a request read up to its signature, and the error responses that are the front end's own.
+//! Requests as the front end reads them: what stands before the signature, and the signature.
 
 use super::signature::{Algorithm, Signature};
-
-/// How long a STUN header is.
-pub const HEADER: usize = 20;
-const COOKIE: [u8; 4] = [0x21, 0x12, 0xa4, 0x42];
-/// What an error response adds to its request's type.
-const ERROR: u16 = 0x0110;
+use crate::stun::{self, MESSAGE_INTEGRITY, MESSAGE_INTEGRITY_SHA256};
 
 /// USERNAME.
 pub const USERNAME: u16 = 0x0006;
-/// MESSAGE-INTEGRITY.
-pub const INTEGRITY: u16 = 0x0008;
-/// ERROR-CODE.
-pub const ERROR_CODE: u16 = 0x0009;
 /// REALM.
 pub const REALM: u16 = 0x0014;
 /// NONCE.
 pub const NONCE: u16 = 0x0015;
-/// MESSAGE-INTEGRITY-SHA256.
-pub const INTEGRITY_SHA256: u16 = 0x001c;
 /// PASSWORD-ALGORITHM, the one that a client has chosen.
 pub const PASSWORD_ALGORITHM: u16 = 0x001d;
 /// USERHASH.
@@ -32,37 +21,33 @@ pub struct Request<'a>(&'a [u8]);
 
 impl<'a> Request<'a> {
     /// Reads a datagram; None for all that is no Allocate, Refresh, `CreatePermission` or `ChannelBind` request, or not well formed. Those
-    /// are the relay's to drop or relay, without a user.
+    /// are the relay's to drop or to relay, without a user.
     pub fn read(datagram: &'a [u8]) -> Option<Self> {
-        let header = datagram.first_chunk::<HEADER>()?;
-        let length = usize::from(u16::from_be_bytes([header[2], header[3]]));
-        let sound = datagram.len() == HEADER + length && length % 4 == 0 && header[4..8] == COOKIE;
-        if !sound || !matches!(header[..2], [0, 3 | 4 | 8 | 9]) {
+        let kind = stun::kind(datagram);
+        let known = matches!(kind, stun::ALLOCATE | stun::REFRESH | stun::CREATE_PERMISSION | stun::CHANNEL_BIND);
+        if !known || !is_framed(datagram) {
             return None;
         }
-        let mut attributes = Attributes::of(datagram);
-        attributes.by_ref().for_each(drop);
-        (attributes.place == datagram.len()).then_some(Request(datagram))
+        let end = stun::all_attributes(datagram)
+            .last()
+            .map_or(stun::HEADER, |attribute| attribute.end());
+        (end == datagram.len()).then_some(Request(datagram))
     }
 
     /// The first attribute of this type that stands before the signature.
     pub fn first(&self, kind: u16) -> Option<&'a [u8]> {
-        let covered = Attributes::of(self.0).take_while(|attribute| !matches!(attribute.kind, INTEGRITY | INTEGRITY_SHA256));
-        covered
-            .filter(|attribute| attribute.kind == kind)
-            .map(|attribute| attribute.value)
-            .next()
+        stun::first(self.0, kind)
     }
 
     /// The signature that counts: the first by SHA-256, which may follow one by SHA-1, else the first by SHA-1. All that the relay reads
     /// stands before either.
     pub fn signature(&self) -> Option<Signature<'a>> {
-        self.signature_by(INTEGRITY_SHA256, Algorithm::Sha256)
-            .or_else(|| self.signature_by(INTEGRITY, Algorithm::Sha1))
+        self.signature_by(MESSAGE_INTEGRITY_SHA256, Algorithm::Sha256)
+            .or_else(|| self.signature_by(MESSAGE_INTEGRITY, Algorithm::Sha1))
     }
 
     fn signature_by(&self, kind: u16, algorithm: Algorithm) -> Option<Signature<'a>> {
-        let found = Attributes::of(self.0).find(|attribute| attribute.kind == kind)?;
+        let found = stun::all_attributes(self.0).find(|attribute| attribute.kind == kind)?;
         Some(Signature {
             algorithm,
             value: found.value,
@@ -72,79 +57,25 @@ impl<'a> Request<'a> {
 
     /// An error response to this request, with these attributes after its code.
     pub fn error(&self, code: u16, attributes: &[(u16, &[u8])]) -> Vec<u8> {
-        let kind = u16::from_be_bytes([self.0[0], self.0[1]]) + ERROR;
-        let mut response = [&kind.to_be_bytes(), &[0, 0], &self.0[4..HEADER]].concat();
-        let [hundreds, rest] = [code / 100, code % 100].map(|part| u8::try_from(part).unwrap_or(0));
-        append(&mut response, ERROR_CODE, &[0, 0, hundreds, rest]);
+        let mut response = stun::error_response(self.0, code);
         for &(kind, value) in attributes {
-            append(&mut response, kind, value);
+            stun::append(&mut response, kind, value);
         }
         response
     }
 }
 
-/// Adds an attribute to a message, padded with zeros, and its length to the header.
-pub fn append(message: &mut Vec<u8>, kind: u16, value: &[u8]) {
-    message.extend(kind.to_be_bytes());
-    message.extend(length_field(value.len()));
-    message.extend(value);
-    message.resize(message.len().next_multiple_of(4), 0);
-    let length = length_field(message.len() - HEADER);
-    message[2..4].copy_from_slice(&length);
-}
-
-/// A length as a message has it. Nothing that the front end reads or writes comes near 65,535 bytes.
-pub fn length_field(length: usize) -> [u8; 2] {
-    u16::try_from(length).unwrap_or(u16::MAX).to_be_bytes()
-}
-
-/// An attribute, and where in the message it starts.
-struct Attribute<'a> {
-    start: usize,
-    kind: u16,
-    value: &'a [u8],
-}
-
-/// The attributes of a message, up to the first that does not fit whole.
-struct Attributes<'a> {
-    message: &'a [u8],
-    place: usize,
-}
-
-impl<'a> Attributes<'a> {
-    fn of(message: &'a [u8]) -> Self {
-        Attributes { message, place: HEADER }
-    }
-}
-
-impl<'a> Iterator for Attributes<'a> {
-    type Item = Attribute<'a>;
-
-    fn next(&mut self) -> Option<Attribute<'a>> {
-        let rest = self.message.get(self.place..)?;
-        let &[high, low, length_high, length_low] = rest.first_chunk()?;
-        let length = usize::from(u16::from_be_bytes([length_high, length_low]));
-        let whole = 4 + length.next_multiple_of(4);
-        let value = rest.get(..whole)?.get(4..4 + length)?;
-        let start = self.place;
-        self.place += whole;
-        let kind = u16::from_be_bytes([high, low]);
-        Some(Attribute { start, kind, value })
-    }
+/// Whether a message has the cookie, and its length field its length.
+fn is_framed(message: &[u8]) -> bool {
+    let cookie = message.get(4..8) == Some(&stun::COOKIE.to_be_bytes());
+    let length = message.len().checked_sub(stun::HEADER).filter(|length| length % 4 == 0);
+    cookie && length.is_some_and(|length| message[2..4] == stun::length_field(length))
 }
 
 #[cfg(test)]
-pub mod tests {
+mod tests {
     use super::*;
-
-    /// A request of this type with these attributes.
-    pub fn request(kind: u8, attributes: &[(u16, &[u8])]) -> Vec<u8> {
-        let mut message = [&[0, kind, 0, 0][..], &COOKIE, b"transaction."].concat();
-        for &(kind, value) in attributes {
-            append(&mut message, kind, value);
-        }
-        message
-    }
+    use crate::stun::request;
 
     #[test]
     fn only_the_four_requests_are_read() {
@@ -179,8 +110,8 @@ pub mod tests {
             &[
                 (USERNAME, b"alice"),
                 (USERNAME, b"bob"),
-                (INTEGRITY, &[7; 20]),
-                (INTEGRITY, &[8; 20]),
+                (MESSAGE_INTEGRITY, &[7; 20]),
+                (MESSAGE_INTEGRITY, &[8; 20]),
                 (NONCE, b"late"),
             ],
         );
@@ -193,7 +124,7 @@ pub mod tests {
 
     #[test]
     fn sha256_counts_where_both_are_there() {
-        let raw = request(3, &[(INTEGRITY, &[7; 20]), (INTEGRITY_SHA256, &[9; 32])]);
+        let raw = request(3, &[(MESSAGE_INTEGRITY, &[7; 20]), (MESSAGE_INTEGRITY_SHA256, &[9; 32])]);
         let signature = Request::read(&raw).and_then(|request| request.signature()).expect("a signature");
         assert_eq!((signature.algorithm, signature.covered.len()), (Algorithm::Sha256, 20 + 24));
         assert!(Request::read(&request(3, &[])).is_some_and(|request| request.signature().is_none()));

@@ -4,7 +4,7 @@
 //! that may be missing where relayd is built; then `absent` stands in, and credentials are refused at the start.
 
 #[cfg_attr(not(feature = "front"), allow(dead_code))]
-mod admission;
+mod verdict;
 
 #[cfg(not(feature = "front"))]
 mod absent;
@@ -27,10 +27,10 @@ mod signature;
 
 #[cfg(not(feature = "front"))]
 pub use absent::{Front, Signer, command};
-pub use admission::{Admission, Moment};
 #[cfg(feature = "front")]
 pub use command::command;
 #[cfg(feature = "front")]
 pub use gate::Front;
 #[cfg(feature = "front")]
 pub use signature::Signer;
+pub use verdict::{Cause, Known, Moment, Verdict};

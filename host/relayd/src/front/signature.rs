@@ -1,9 +1,10 @@
 //! MESSAGE-INTEGRITY and MESSAGE-INTEGRITY-SHA256: checked in requests, added to responses (RFC 8489, sections 14.5 and 14.6).
 
-use super::message::{HEADER, INTEGRITY, INTEGRITY_SHA256, append, length_field};
+use crate::stun::{self, HEADER, append, length_field};
 use hmac::{Hmac, Mac};
 use sha1::Sha1;
 use sha2::Sha256;
+use std::fmt;
 
 /// The hash behind a signature.
 #[derive(Clone, Copy, Debug, PartialEq, Eq)]
@@ -25,8 +26,8 @@ impl Algorithm {
 
     fn attribute(self) -> u16 {
         match self {
-            Algorithm::Sha1 => INTEGRITY,
-            Algorithm::Sha256 => INTEGRITY_SHA256,
+            Algorithm::Sha1 => stun::MESSAGE_INTEGRITY,
+            Algorithm::Sha256 => stun::MESSAGE_INTEGRITY_SHA256,
         }
     }
 }
@@ -53,6 +54,7 @@ impl Signature<'_> {
 }
 
 /// Signs the responses to one request: with the algorithm and the key of that request.
+#[derive(PartialEq, Eq)]
 pub struct Signer {
     /// The hash.
     pub algorithm: Algorithm,
@@ -64,7 +66,7 @@ impl Signer {
     /// The response, and the signature after it. What is no response is left as it is: indications and `ChannelData` have none.
     pub fn sign(&self, response: &[u8]) -> Vec<u8> {
         let mut signed = response.to_vec();
-        if response.len() >= HEADER && response[0] == 1 {
+        if stun::response(response).is_some() {
             let size = self.algorithm.size();
             let value = match self.algorithm {
                 Algorithm::Sha1 => over::<Hmac<Sha1>>(&self.key, response, size).finalize().into_bytes().to_vec(),
@@ -73,6 +75,13 @@ impl Signer {
             append(&mut signed, self.algorithm.attribute(), &value);
         }
         signed
+    }
+}
+
+/// The key is never shown.
+impl fmt::Debug for Signer {
+    fn fmt(&self, out: &mut fmt::Formatter<'_>) -> fmt::Result {
+        write!(out, "Signer by {:?}", self.algorithm)
     }
 }
 
@@ -89,9 +98,9 @@ fn over<M: Mac + hmac::digest::KeyInit>(key: &[u8], covered: &[u8], size: usize)
 #[cfg(test)]
 pub mod tests {
     use super::super::keys::Keys;
-    use super::super::message::tests::request;
     use super::*;
     use crate::line::read_hex;
+    use crate::stun::request;
 
     fn bytes(hex: &str) -> Vec<u8> {
         let mut bytes = Vec::new();
@@ -160,11 +169,8 @@ pub mod tests {
         let mut response = request(3, &[(0x000d, &[0, 0, 2, 88])]);
         response[0] = 1;
         for algorithm in [Algorithm::Sha1, Algorithm::Sha256] {
-            let signer = Signer {
-                algorithm,
-                key: b"key".to_vec(),
-            };
-            let signed = signer.sign(&response);
+            let key = b"key".to_vec();
+            let signed = Signer { algorithm, key }.sign(&response);
             assert_eq!(signed.len(), response.len() + 4 + algorithm.size());
             assert_eq!((&signed[..2], &signed[4..response.len()]), (&response[..2], &response[4..]));
             assert_eq!(signed[2..4], length_field(signed.len() - HEADER));

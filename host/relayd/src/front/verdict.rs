@@ -1,4 +1,4 @@
-//! What becomes of a client's datagram at the front end, and why, in words for the log.
+//! What the front end says of a client's datagram, and why, in words for the log.
 
 use super::Signer;
 use std::fmt;
@@ -13,13 +13,23 @@ pub struct Moment {
 }
 
 /// What becomes of a datagram.
-pub enum Admission {
+pub enum Verdict {
     /// The front end answers with these bytes, and the relay never hears of it.
-    Reply { bytes: Vec<u8>, cause: Cause },
+    Reply { response: Vec<u8>, cause: Cause },
     /// No answer: this source has had its share in this second. The first time in a second is told.
     Silence { cause: Cause, first: bool },
-    /// The relay's, for this user (0: nobody); its response goes through the signer, where there is one.
-    Pass { user: u32, signer: Option<Signer> },
+    /// The relay's: a request of whom it says, or nobody's, which is no request.
+    Pass(Option<Known>),
+}
+
+/// Whose request it is.
+pub struct Known {
+    /// The user number.
+    pub user: u32,
+    /// The name that it was signed with.
+    pub name: String,
+    /// Its response goes through this.
+    pub signer: Signer,
 }
 
 /// Why a request was not passed on.
@@ -54,9 +64,14 @@ impl Cause {
         }
     }
 
-    /// Whether someone had credentials and they were wrong. A request without any, or with an old nonce, is every client's way in.
+    /// Whether someone had credentials, and they were wrong.
     pub fn is_failure(&self) -> bool {
-        !matches!(self, Cause::Unsigned | Cause::StaleNonce | Cause::Malformed(_))
+        !self.is_routine() && !matches!(self, Cause::Malformed(_))
+    }
+
+    /// Whether it is no news: every client's first request, and any client's after an hour.
+    pub fn is_routine(&self) -> bool {
+        matches!(self, Cause::Unsigned | Cause::StaleNonce)
     }
 
     /// What it is counted under.
