@@ -31,6 +31,11 @@ def answered(client, request):
     return 0
 
 
+def users_of(relayd):
+    """The user of each allocation."""
+    return [allocation.user for allocation in relayd.status().allocations]
+
+
 def case_passwords(lab):
     "a client with a password: challenged once, data both ways, every answer signed; by SHA-1 and SHA-256, by name and by its hash, on IPv4 and IPv6"
     with credentials.relayd(lab) as relayd:
@@ -61,7 +66,7 @@ def case_nobody(lab):
                 assert error.found[credentials.NONCE].startswith(b"obMatJos2")
             else:
                 raise AssertionError("a stranger was let in")
-        assert relayd.listing() == []
+        assert relayd.status().allocations == []
 
 
 def case_wrong(lab):
@@ -98,7 +103,7 @@ def case_another_user(lab):
         other = Client(*BOB, sock=own.sock, server=(SERVER, PORT))
         refused(lambda: other.refresh(0), 441)
         refused(lambda: other.permit(PEER), 441)
-        assert [row[2] for row in relayd.listing()] == [str(USERS["alice"][1])]
+        assert users_of(relayd) == [USERS["alice"][1]]
         assert own.refresh(600) == 600
 
 
@@ -124,7 +129,7 @@ def case_replay(lab):
         taken = own.make(turn.ALLOCATE, os.urandom(12), [UDP])
         for thief in (lab.client(), lab.client(SERVER6)):
             assert answered(thief, taken) == 438
-        assert relayd.listing() == []
+        assert relayd.status().allocations == []
         assert answered(own, taken) == 0
 
 
@@ -144,7 +149,7 @@ def case_signatures(lab):
                 assert allocate(lambda before, code: before + turn.attribute(kind, code[:kept])) == 400, kept
             assert allocate(lambda before, code: before + turn.attribute(kind, bytes(size)) + turn.attribute(kind, code)) == 401
             assert allocate(lambda before, code: turn.attribute(kind, code) + before) == 400
-            assert relayd.listing() == []
+            assert relayd.status().allocations == []
             longer = turn.attribute(turn.LIFETIME, struct.pack("!I", 3600)) + turn.attribute(0x7FFF, b"unknown")
             assert allocate(lambda before, code: before + turn.attribute(kind, code) + turn.attribute(kind, bytes(size)) + longer) == 0
             assert own.refresh(0) == 0
@@ -159,7 +164,7 @@ def case_changed(lab):
         for place in range(len(whole)):
             own.sock.send(whole[:place] + bytes([whole[place] ^ 0x04]) + whole[place + 1:])
             time.sleep(0.002)
-        assert relayd.listing() == []
+        assert relayd.status().allocations == []
 
 
 def case_algorithms(lab):
@@ -185,7 +190,8 @@ def case_slowed(lab):
             answers = drain(sock)
             # The first guess was answered above, and a second may begin meanwhile.
             assert most - 1 <= answers <= 2 * most, answers
-        assert any("not answered" in line for line in relayd.log())
+        told = [line for line in relayd.log() if "gets no more answers in this second" in line]
+        assert 2 <= len(told) <= 4 and relayd.status().drops("too many a second") > 400, told
         other = client(lab, *ALICE, server=SERVER6)
         other.allocate()
 
@@ -202,18 +208,49 @@ def drain(sock):
 
 
 def case_reload(lab):
-    "SIGHUP reads the credentials again: a removed user's allocation stays to its end, but is not refreshed and gets no permission; a bad file changes nothing"
+    "SIGHUP reads the credentials again: a removed user's allocation is not refreshed and gets no permission, but stays to its end; a bad file changes nothing"
     with credentials.relayd(lab) as relayd:
         own, path = client(lab, *ALICE), lab.folder / "credentials"
         own.allocate()
         credentials.remove_user(path, "alice")
-        credentials.reload(relayd)
+        assert "realm example.org, 2 users, 1 secrets" in credentials.reload(relayd)
         for request in (lambda: own.refresh(600), lambda: own.permit(PEER), lambda: own.bind(0x4000, (PEER, 5000))):
             refused(request, 401)
-        assert [row[2] for row in relayd.listing()] == [str(USERS["alice"][1])]
+        assert users_of(relayd) == [USERS["alice"][1]]
         path.write_text("realm example.org\nuser bob 99\n")
-        credentials.reload(relayd)
+        assert "stay as they were" in credentials.reload(relayd)
         client(lab, *BOB).allocate()
+
+
+def case_local_peer(lab):
+    "a peer on the relay's own loopback gets 403, signed; without credentials 401"
+    with credentials.relayd(lab):
+        own = client(lab, *ALICE)
+        own.allocate()
+        refused(lambda: own.permit("127.0.0.1"), 403)
+        refused(lambda: lab.client().permit("127.0.0.1"), 401)
+
+
+def case_told(lab):
+    "log, status and metrics have names in the place of numbers, and how often credentials were right and wrong; never a key"
+    metrics = lab.folder / "front-metrics"
+    with credentials.relayd(lab, "--metrics", metrics) as relayd:
+        name, password = timed("guest", 60)
+        for who in (ALICE, (name, password)):
+            client(lab, *who).allocate()
+        refused(client(lab, "alice", "wrong").allocate, 401)
+        status = relayd.status()
+        assert sorted(allocation.name for allocation in status.allocations) == ["alice", "guest"], status.text
+        assert "credentials: 3 challenged, 2 passed, 1 wrong password" in status.text, status.text
+        assert 'relayd_credentials_total{verdict="wrong_password"} 1' in metrics.read_text()
+        log = "\n".join(relayd.log())
+        for word in ("realm example.org, 3 users, 1 secrets", "allocation made: user 3 (alice)", f"allocation made: user 5 ({name})"):
+            assert word in log, (word, log)
+        lines = (lab.folder / "credentials").read_text().splitlines()
+        keys = [word for line in lines if line.startswith("user ") for word in line.split()[3:]]
+        assert len(keys) == 4, lines
+        for text in (log, status.text, metrics.read_text()):
+            assert not any(secret in text for secret in [*keys, password, "opensesame"]), text
 
 
 def case_mode(lab):
@@ -223,8 +260,9 @@ def case_mode(lab):
         path.chmod(mode)
         if text is not None:
             path.write_text(text)
-        done = lab.run("relay", *lab.relayd_command("--credentials", path, user=None), timeout=10)
-        assert done.returncode == 2 and word in done.stderr, done
+        for check in ([], ["--check"]):
+            done = lab.run("relay", *lab.relayd_command("--credentials", path, *check, user=None), timeout=10)
+            assert done.returncode == 2 and word in done.stderr, done
 
 
 def case_aioice(lab):
@@ -232,7 +270,7 @@ def case_aioice(lab):
     with echo(lab), credentials.relayd(lab) as relayd:
         for name, password in (ALICE, timed("guest", 60)):
             assert aioice(lab, SERVER, PORT, name, password)[0] == SERVER
-            assert relayd.listing() == []
+            assert relayd.status().allocations == []
 
 
 def uclient_case(what, who, *flags):
@@ -245,7 +283,7 @@ def uclient_case(what, who, *flags):
 
 
 CASES = [case_passwords, case_nobody, case_wrong, case_errors_signed, case_another_user, case_stale, case_replay, case_signatures, case_changed,
-         case_algorithms, case_slowed, case_mode, case_aioice,
+         case_algorithms, case_slowed, case_reload, case_local_peer, case_told, case_mode, case_aioice,
          uclient_case("with a password, channels", lambda: ALICE),
          uclient_case("with a password, Send and Data", lambda: ALICE, "-s"),
          uclient_case("with a time-limited name", lambda: timed("guest", 60))]

@@ -3,12 +3,13 @@ import base64
 import contextlib
 import hashlib
 import hmac
+import signal
 import struct
 import subprocess
 import time
 
 import turn
-from lab import RELAYD
+from lab import RELAYD, wait_for
 
 REALM, SECRET = "example.org", "north"
 USERS = {"alice": ("opensesame", 3), "bob": ("sesameopen", 4)}
@@ -51,6 +52,13 @@ def timed(name, seconds, secret=SECRET):
 def relayd(lab, *options):
     with lab.relayd("--credentials", write_file(lab), *options, user=None) as running:
         yield running
+
+
+def reload(running):
+    """SIGHUP, and what relayd says of it."""
+    before, words = len(running.log()), ("were read again", "stay as they were")
+    running.process.send_signal(signal.SIGHUP)
+    return wait_for(lambda: next((line for line in running.written()[before:] if any(word in line for word in words)), None), "a reload")
 
 
 def granted(running, method):

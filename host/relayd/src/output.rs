@@ -43,7 +43,9 @@ impl Output {
 
     /// Adds whole lines, or counts them as lost.
     pub fn put(&mut self, text: &str) {
-        if self.held.len() + text.len() > HELD {
+        // Once lines are lost, half of what is held has to be read before there are new ones: few gaps, and each told with its length.
+        let room = if self.lost > 0 { HELD / 2 } else { HELD };
+        if self.held.len() + text.len() > room {
             self.lost += count_lines(text.as_bytes());
             return;
         }

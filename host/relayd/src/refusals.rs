@@ -9,7 +9,7 @@ use std::net::{IpAddr, SocketAddr};
 const KEPT: usize = 32;
 /// How many new ones are told in the log in one second.
 const TOLD: u64 = 20;
-/// How often the count of a repeated one is told, and how long one without repeats is kept, in seconds.
+/// How often the count of a repeated one is told, and after what time one counts as new again, in seconds.
 const REPEATED: u64 = 60;
 const FORGOTTEN: u64 = 600;
 
@@ -64,13 +64,17 @@ pub struct Refusals {
 impl Refusals {
     /// Takes one in, and says whether it is to be told now.
     pub fn add(&mut self, now: u64, stamp: String, refusal: Refusal) -> bool {
-        if let Some(kept) = self.kept.iter_mut().find(|kept| kept.refusal.key() == refusal.key()) {
-            kept.count += 1;
-            kept.untold += 1;
-            kept.last = now;
-            kept.stamp = stamp;
-            kept.refusal.from = refusal.from;
-            return false;
+        if let Some(place) = self.kept.iter().position(|kept| kept.refusal.key() == refusal.key()) {
+            let kept = &mut self.kept[place];
+            if now < kept.last + FORGOTTEN {
+                kept.count += 1;
+                kept.untold += 1;
+                kept.last = now;
+                kept.stamp = stamp;
+                kept.refusal.from = refusal.from;
+                return false;
+            }
+            self.kept.remove(place);
         }
         if self.kept.len() == KEPT {
             self.kept.pop_front();
@@ -96,7 +100,7 @@ impl Refusals {
         self.kept.iter()
     }
 
-    /// The counts that are due, each with its refusal; and how many new ones were not told. Forgets what is long ago.
+    /// The counts that are due, each with its refusal; and how many new ones were not told.
     pub fn due(&mut self, now: u64) -> (Vec<(Refusal, u64)>, u64) {
         let mut due = Vec::new();
         for kept in &mut self.kept {
@@ -105,7 +109,6 @@ impl Refusals {
                 kept.told = now;
             }
         }
-        self.kept.retain(|kept| kept.untold > 0 || now < kept.last + FORGOTTEN);
         let hushed = if now == self.second { 0 } else { std::mem::take(&mut self.hushed) };
         (due, hushed)
     }
@@ -136,8 +139,8 @@ mod tests {
         assert_eq!(refusals.due(60).0, [(refusal(7, 38), 37)]);
         assert_eq!(refusals.due(200).0, []);
         assert_eq!(refusals.kept().map(|kept| kept.count).collect::<Vec<_>>(), [38]);
-        refusals.due(601);
-        assert!(refusals.add(602, String::new(), refusal(7, 1)));
+        assert!(!refusals.add(600, String::new(), refusal(7, 1)));
+        assert!(refusals.add(1200, String::new(), refusal(7, 1)));
     }
 
     #[test]

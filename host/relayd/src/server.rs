@@ -107,15 +107,20 @@ impl Server {
         self.parts.reports.flush();
         let patience = self.next_tick.saturating_duration_since(Instant::now());
         self.waiting.wait(patience, ready).map_err(|error| cannot_wait(&error))?;
+        let mut asked = false;
         for &token in &*ready {
             match token {
                 ENDING => return Err(Stop::Asked),
-                SIGNALS => self.obey(),
+                SIGNALS => asked = true,
                 PROGRAM => self.restart("has ended", self.parts.desk.clock.now())?,
                 number => self.take(usize::try_from(number).unwrap_or(usize::MAX))?,
             }
         }
         self.work()?;
+        // What came before a signal is done before it, so that a status has it.
+        if asked {
+            self.obey();
+        }
         if Instant::now() >= self.next_tick {
             self.tick();
         }
@@ -291,7 +296,8 @@ impl Parts {
             Admission::Drop(cause) => self.desk.drop(arrival, received.length, cause),
             Admission::Alarm(cause, why) => {
                 self.desk.drop(arrival, received.length, cause);
-                self.desk.event(&format!("no more answers for {} in this second: {why}", from.ip()));
+                self.desk
+                    .event(&format!("{} gets no more answers in this second: {why}", from.ip()));
             }
         }
         Ok(None)

@@ -2,11 +2,11 @@
 
 use super::credentials::{Claimed, Credentials, Nobody};
 use super::keys::Keys;
-use super::limits::{Limits, Standing};
+use super::limits::{Count, Limits, Standing};
 use super::message::{NONCE, PASSWORD_ALGORITHM, PASSWORD_ALGORITHMS, REALM, Request, USERHASH, USERNAME};
 use super::nonce::Nonces;
 use super::signature::{Signature, Signer};
-use super::verdict::{Cause, Known, Moment, Verdict, shown};
+use super::verdict::{Cause, Known, Moment, Verdict, plain};
 use std::collections::BTreeMap;
 use std::net::SocketAddr;
 use std::path::PathBuf;
@@ -22,6 +22,9 @@ pub const CHALLENGES: u32 = 50;
 /// How many wrong credentials from one source are looked at in a second.
 pub const FAILURES: u32 = 5;
 
+/// How many sources that get no more answers are told in a second.
+const ALARMS: u32 = 10;
+
 /// The front end.
 pub struct Front {
     path: PathBuf,
@@ -31,6 +34,7 @@ pub struct Front {
     nobody: Keys,
     challenges: Limits,
     failures: Limits,
+    alarms: Count,
     counts: BTreeMap<&'static str, u64>,
 }
 
@@ -63,6 +67,7 @@ impl Front {
             nonces: Nonces::new(key),
             challenges: Limits::new(CHALLENGES),
             failures: Limits::new(FAILURES),
+            alarms: Count::default(),
             counts: BTreeMap::new(),
         }
     }
@@ -131,15 +136,15 @@ impl Front {
         match (&found, signing) {
             (Ok(found), Some(key)) => Ok(Known {
                 user: found.number,
-                name: String::from_utf8_lossy(found.name).into_owned(),
+                name: plain(found.name),
                 signer: Signer {
                     algorithm: signature.algorithm,
                     key: key.to_vec(),
                 },
             }),
-            (Ok(_), None) => Err(Cause::WrongPassword(claim.shown())),
-            (Err(Nobody::Expired), _) => Err(Cause::ExpiredName(claim.shown())),
-            (Err(Nobody::Unknown), _) => Err(Cause::UnknownName(claim.shown())),
+            (Ok(_), None) => Err(Cause::WrongPassword(claim.name())),
+            (Err(Nobody::Expired), _) => Err(Cause::ExpiredName(claim.name())),
+            (Err(Nobody::Unknown), _) => Err(Cause::UnknownName(claim.name())),
         }
     }
 
@@ -158,7 +163,7 @@ impl Front {
             }
             (standing, _) => {
                 self.count("not answered");
-                let first = standing == Standing::FirstOver;
+                let first = standing == Standing::FirstOver && self.alarms.one_more(now, ALARMS) == Standing::Within;
                 Verdict::Silence { cause, first }
             }
         }
@@ -191,10 +196,11 @@ impl<'a> Claim<'a> {
         Ok(Claim { claimed, realm, nonce })
     }
 
-    fn shown(&self) -> String {
+    /// The name, for the log.
+    fn name(&self) -> String {
         match self.claimed {
-            Claimed::Name(name) => shown(name),
-            Claimed::Hash(_) => "by hash".to_string(),
+            Claimed::Name(name) => plain(name),
+            Claimed::Hash(_) => "by its hash".to_string(),
         }
     }
 }

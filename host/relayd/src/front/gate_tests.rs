@@ -190,7 +190,10 @@ fn a_name_may_come_as_its_hash() {
         identity: hashed(b"eve"),
         ..Ask::new(&front, b"eve", PASSWORD)
     };
-    assert_eq!(refused(&mut front, &unknown.bytes()).1, Cause::UnknownName("by hash".to_string()));
+    assert_eq!(
+        refused(&mut front, &unknown.bytes()).1,
+        Cause::UnknownName("by its hash".to_string())
+    );
 }
 
 #[test]
@@ -209,10 +212,7 @@ fn a_time_limited_name_passes_until_its_second() {
                 ..MOMENT
             };
             let (response, cause) = refused_at(&mut front, later, client(), &ask.bytes());
-            assert_eq!(
-                (code(&response), cause),
-                (401, Cause::ExpiredName("'1700000001:guest'".to_string()))
-            );
+            assert_eq!((code(&response), cause), (401, Cause::ExpiredName("1700000001:guest".to_string())));
         }
     }
     let wrong = Ask::old(&front, b"1700000001:guest", timed_password(b"east", b"1700000001:guest").as_bytes());
@@ -460,6 +460,14 @@ fn a_guesser_is_slowed_and_even_a_right_guess_waits() {
 }
 
 #[test]
+fn a_flood_from_everywhere_does_not_fill_the_log() {
+    let mut front = front();
+    let bare = request(3, &[TRANSPORT]);
+    let told = (0..100).map(|host| tally(&mut front, SocketAddr::from(([192, 0, 2, host], 9)), &bare, CHALLENGES + 1).1);
+    assert_eq!(told.sum::<u32>(), ALARMS);
+}
+
+#[test]
 fn who_forges_a_victims_address_does_not_slow_the_victim() {
     let mut front = front();
     let forged = Ask {
@@ -483,7 +491,7 @@ fn a_user_who_is_removed_is_turned_away() {
     assert_eq!(passed(&mut front, &refresh).0, 3);
     front.credentials = credentials(&[("bob", 4)]);
     let (response, cause) = refused(&mut front, &refresh);
-    assert_eq!((code(&response), cause), (401, Cause::UnknownName("'alice'".to_string())));
+    assert_eq!((code(&response), cause), (401, Cause::UnknownName("alice".to_string())));
     let permit = Ask {
         kind: 8,
         ..Ask::old(&front, NAME, PASSWORD)

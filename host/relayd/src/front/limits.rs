@@ -6,11 +6,26 @@ use std::net::IpAddr;
 /// Counters in the table. Sources that fall on one counter share its limit; which do, nobody can choose.
 const PLACES: usize = 4096;
 
-/// What one source has done in one second.
+/// How often something has happened in one second.
 #[derive(Clone, Copy, Default)]
-struct Count {
+pub struct Count {
     second: u64,
     times: u32,
+}
+
+impl Count {
+    /// Counts one more, where so many a second are allowed.
+    pub fn one_more(&mut self, now: u64, a_second: u32) -> Standing {
+        if self.second != now {
+            *self = Count { second: now, times: 0 };
+        }
+        self.times = self.times.saturating_add(1);
+        match self.times.checked_sub(a_second) {
+            None | Some(0) => Standing::Within,
+            Some(1) => Standing::FirstOver,
+            Some(_) => Standing::Over,
+        }
+    }
 }
 
 /// What becomes of one more.
@@ -47,16 +62,7 @@ impl<H: BuildHasher> Limits<H> {
     /// Counts one more of this source.
     pub fn count(&mut self, now: u64, source: IpAddr) -> Standing {
         let place = self.place(source);
-        let count = &mut self.counts[place];
-        if count.second != now {
-            *count = Count { second: now, times: 0 };
-        }
-        count.times = count.times.saturating_add(1);
-        match count.times.checked_sub(self.a_second) {
-            None | Some(0) => Standing::Within,
-            Some(1) => Standing::FirstOver,
-            Some(_) => Standing::Over,
-        }
+        self.counts[place].one_more(now, self.a_second)
     }
 
     /// Whether the next one of this source would be over the limit.

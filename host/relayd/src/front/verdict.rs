@@ -16,7 +16,7 @@ pub struct Moment {
 pub enum Verdict {
     /// The front end answers with these bytes, and the relay never hears of it.
     Reply { response: Vec<u8>, cause: Cause },
-    /// No answer: this source has had its share in this second. The first time in a second is told.
+    /// No answer: this source has had its share in this second. The first time in a second is told, of some sources.
     Silence { cause: Cause, first: bool },
     /// The relay's: a request of whom it says, or nobody's, which is no request.
     Pass(Option<Known>),
@@ -95,18 +95,18 @@ impl fmt::Display for Cause {
             Cause::StaleNonce => out.write_str("its nonce is over, for another address, or from before the start"),
             Cause::Malformed(what) => out.write_str(what),
             Cause::OtherRealm => out.write_str("another realm"),
-            Cause::UnknownName(name) => write!(out, "unknown user {name}"),
-            Cause::ExpiredName(name) => write!(out, "the time of user {name} is over"),
-            Cause::WrongPassword(name) => write!(out, "wrong password of user {name}"),
-            Cause::TooManyFailures => out.write_str("too many failures in this second; not looked at"),
+            Cause::UnknownName(name) => write!(out, "unknown user '{name}'"),
+            Cause::ExpiredName(name) => write!(out, "the time of user '{name}' is over"),
+            Cause::WrongPassword(name) => write!(out, "wrong password of user '{name}'"),
+            Cause::TooManyFailures => out.write_str("too many wrong credentials"),
         }
     }
 }
 
-/// A name as a stranger sent it, made fit for a line of the log.
-pub fn shown(name: &[u8]) -> String {
+/// A name as somebody sent it, made fit for a line of the log.
+pub fn plain(name: &[u8]) -> String {
     let text: String = String::from_utf8_lossy(name).chars().take(80).collect();
-    format!("'{}'", text.escape_default())
+    text.escape_default().to_string()
 }
 
 #[cfg(test)]
@@ -115,10 +115,8 @@ mod tests {
 
     #[test]
     fn a_strangers_name_cannot_break_the_log() {
-        assert_eq!(
-            shown(b"alice\n1000 user 3 \x1b[2J'\xff"),
-            r"'alice\n1000 user 3 \u{1b}[2J\'\u{fffd}'"
-        );
-        assert!(shown(&[b'a'; 1000]).len() == 82);
+        assert_eq!(plain(b"1700000000:al-ice@x"), "1700000000:al-ice@x");
+        assert_eq!(plain(b"alice\n1000 user 3 \x1b[2J'\xff"), r"alice\n1000 user 3 \u{1b}[2J\'\u{fffd}");
+        assert_eq!(plain(&[b'a'; 1000]).len(), 80);
     }
 }
