@@ -34,3 +34,16 @@ pub use gate::Front;
 #[cfg(feature = "front")]
 pub use signature::Signer;
 pub use verdict::{Cause, Known, Moment, Verdict};
+
+#[cfg(test)]
+mod tests {
+    /// There are two manifests, with the front end's crates and without; all else in them is the same.
+    #[test]
+    fn the_manifests_agree() {
+        let with_front = include_str!("../../with-front/Cargo.toml");
+        let own = |line: &&str| line.starts_with('#') || line.starts_with("unexpected_cfgs");
+        for line in include_str!("../../Cargo.toml").lines().filter(|line| !own(line)) {
+            assert!(with_front.lines().any(|other| other == line), "{line}");
+        }
+    }
+}
