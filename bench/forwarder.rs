@@ -4,25 +4,14 @@
 //!
 //! A datagram of one byte gives a new client the next of COUNT relay sockets (ports 52000 and up), and answers with its port (two bytes).
 //! A client's other datagrams go to PEER from that socket, and what comes to that socket goes to it from SERVER, unchanged. One thread,
-//! poll, batches of 32: as relayd does it. Only for the bench: it trusts everybody.
+//! epoll, up to 32 datagrams of a socket at a time. Only for the bench: it trusts everybody.
+
+mod epoll;
 
 use std::collections::HashMap;
 use std::env;
-use std::ffi::{c_int, c_short, c_ulong};
 use std::io;
 use std::net::{SocketAddr, UdpSocket};
-use std::os::fd::AsRawFd;
-
-#[repr(C)]
-struct PollEntry {
-    fd: c_int,
-    events: c_short,
-    revents: c_short,
-}
-
-unsafe extern "C" {
-    fn poll(entries: *mut PollEntry, count: c_ulong, timeout: c_int) -> c_int;
-}
 
 struct Forwarder {
     server: UdpSocket,
@@ -84,22 +73,11 @@ impl Forwarder {
     }
 
     fn run(mut self) -> io::Result<()> {
-        let entry = |socket: &UdpSocket| PollEntry {
-            fd: socket.as_raw_fd(),
-            events: 1,
-            revents: 0,
-        };
-        let mut entries: Vec<PollEntry> = std::iter::once(&self.server).chain(&self.relays).map(entry).collect();
+        let waiting = epoll::Epoll::on(std::iter::once(&self.server).chain(&self.relays))?;
         let mut buffer = vec![0; 1 << 16];
         loop {
-            // SAFETY: the pointer and the count are those of one live vector of `struct pollfd`.
-            if unsafe { poll(entries.as_mut_ptr(), entries.len() as c_ulong, -1) } < 0 {
-                return Err(io::Error::last_os_error());
-            }
-            for place in 0..entries.len() {
-                if entries[place].revents != 0 {
-                    self.drain(place, &mut buffer)?;
-                }
+            for place in waiting.wait(-1)? {
+                self.drain(place, &mut buffer)?;
             }
         }
     }

@@ -17,37 +17,21 @@ pub enum Answer {
     ToPeer(u16, SocketAddr),
 }
 
-const DIGITS: &[u8; 16] = b"0123456789abcdef";
-const NONE: u8 = 16;
-
-/// The value of each character as a digit; `NONE` for those that are none.
-const VALUES: [u8; 256] = {
-    let mut values = [NONE; 256];
-    let mut value = 0;
-    while value < 16 {
-        values[DIGITS[value as usize] as usize] = value;
-        value += 1;
-    }
-    values
-};
-
-/// The two digits of each byte.
-const PAIRS: [[u8; 2]; 256] = {
-    let mut pairs = [[0; 2]; 256];
-    let mut byte = 0;
-    while byte < 256 {
-        pairs[byte] = [DIGITS[byte >> 4], DIGITS[byte & 15]];
-        byte += 1;
-    }
-    pairs
-};
+/// The two digits of two halves of a byte, each in its half of a word. Without a branch or a table, so that the compiler can make many
+/// words at once: every relayed byte goes through here.
+fn digits(halves: u16) -> u16 {
+    // 1 for each half that is over 9: the letters stand 39 places behind where digits would.
+    let letters = (halves + 0x0606) >> 4 & 0x0101;
+    halves + 0x3030 + letters * 39
+}
 
 /// Appends bytes as lower case hex digits.
 pub fn put_hex(line: &mut Vec<u8>, bytes: &[u8]) {
     let begin = line.len();
     line.resize(begin + 2 * bytes.len(), 0);
     for (pair, byte) in line[begin..].chunks_exact_mut(2).zip(bytes) {
-        pair.copy_from_slice(&PAIRS[usize::from(*byte)]);
+        let halves = u16::from(byte >> 4) | u16::from(byte & 15) << 8;
+        pair.copy_from_slice(&digits(halves).to_le_bytes());
     }
 }
 
@@ -57,7 +41,7 @@ fn put_number(line: &mut Vec<u8>, mut number: u64) {
     let mut begin = 20;
     loop {
         begin -= 1;
-        digits[begin] = DIGITS[usize::from((number % 10) as u8)];
+        digits[begin] = b'0' + (number % 10) as u8;
         number /= 10;
         if number == 0 {
             return line.extend_from_slice(&digits[begin..]);
@@ -98,22 +82,27 @@ pub fn peer(lines: &mut Vec<u8>, now: u64, from: SocketAddr, relay_port: u16, da
 
 /// Reads an answer without its newline, and puts its bytes behind `bytes`. None where it is of no form.
 pub fn read(line: &[u8], bytes: &mut Vec<u8>) -> Option<Answer> {
-    let mut fields = line.splitn(5, |&byte| byte == b'\t');
-    let mut field = || fields.next();
-    match (field()?, field(), field(), field(), field()) {
-        (b"D", None, ..) => Some(Answer::Dropped),
-        (b"E", None, ..) => Some(Answer::NotTaken),
-        (b"R", Some(number), None, ..) => decimal(number).map(Answer::Refused),
-        (b"S", Some(address), Some(port), Some(hex), None) => {
-            read_hex(hex, bytes)?;
-            Some(Answer::ToClient(place(address, port)?))
-        }
-        (b"F", Some(relay_port), Some(address), Some(port), Some(hex)) => {
-            read_hex(hex, bytes)?;
-            Some(Answer::ToPeer(decimal(relay_port)?, place(address, port)?))
-        }
-        _ => None,
-    }
+    let (kind, mut rest) = match line {
+        b"D" => return Some(Answer::Dropped),
+        b"E" => return Some(Answer::NotTaken),
+        [kind, b'\t', rest @ ..] => (*kind, rest),
+        _ => return None,
+    };
+    // The last field is all that is left: a tab in it is no digit.
+    let mut field = || {
+        let end = rest.iter().position(|&byte| byte == b'\t')?;
+        let field = &rest[..end];
+        rest = &rest[end + 1..];
+        Some(field)
+    };
+    let answer = match kind {
+        b'R' => return decimal(rest).map(Answer::Refused),
+        b'S' => Answer::ToClient(place(field()?, field()?)?),
+        b'F' => Answer::ToPeer(decimal(field()?)?, place(field()?, field()?)?),
+        _ => return None,
+    };
+    read_hex(rest, bytes)?;
+    Some(answer)
 }
 
 /// A decimal number that fits its type.
@@ -136,13 +125,16 @@ fn place(address: &[u8], port: &[u8]) -> Option<SocketAddr> {
 pub fn read_hex(text: &[u8], bytes: &mut Vec<u8>) -> Option<()> {
     let begin = bytes.len();
     bytes.resize(begin + text.len() / 2, 0);
-    let mut seen = 0;
+    let mut wrong = 0;
     for (byte, pair) in bytes[begin..].iter_mut().zip(text.chunks_exact(2)) {
-        let (high, low) = (VALUES[usize::from(pair[0])], VALUES[usize::from(pair[1])]);
-        seen |= high | low;
-        *byte = high << 4 | low & 15;
+        let word = u16::from_le_bytes([pair[0], pair[1]]);
+        let halves = (word & 0x0f0f) + (word >> 6 & 0x0101) * 9;
+        // A character is a digit if it is the one that its value is written with.
+        wrong |= halves & 0xf0f0 | (digits(halves) ^ word);
+        let [low, _] = (halves << 4 | halves >> 8).to_le_bytes();
+        *byte = low;
     }
-    (seen < NONE && text.len() % 2 == 0).then_some(())
+    (wrong == 0 && text.len() % 2 == 0).then_some(())
 }
 
 #[cfg(test)]
@@ -181,6 +173,29 @@ mod tests {
     }
 
     #[test]
+    fn every_byte_is_written_and_read() {
+        let bytes: Vec<u8> = (0..=255).collect();
+        let mut text = Vec::new();
+        put_hex(&mut text, &bytes);
+        for (byte, pair) in bytes.iter().zip(text.chunks(2)) {
+            assert_eq!(pair, format!("{byte:02x}").as_bytes());
+        }
+        let mut back = Vec::new();
+        read_hex(&text, &mut back).expect("hex");
+        assert_eq!(back, bytes);
+    }
+
+    #[test]
+    fn no_other_character_is_a_digit() {
+        for character in 0..=255u8 {
+            let is_digit = matches!(character, b'0'..=b'9' | b'a'..=b'f');
+            for pair in [[character, b'0'], [b'f', character]] {
+                assert_eq!(read_hex(&pair, &mut Vec::new()).is_some(), is_digit, "{character}");
+            }
+        }
+    }
+
+    #[test]
     fn what_is_no_answer() {
         let mut bytes = Vec::new();
         for line in [
@@ -188,6 +203,10 @@ mod tests {
             b"X",
             b"D\t",
             b"R\t256",
+            b"R\t1\t",
+            b"S\tc0000296\t1\t00\t00",
+            b"S\tc0000296\t1",
+            b"F\t49157\tc0000296\t5000",
             b"S\tc00002\t1\t00",
             b"S\tc0000296\t65536\t00",
             b"S\tc0000296\t1\t0",

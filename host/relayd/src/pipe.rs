@@ -7,6 +7,7 @@ use crate::relay::{Outcome, Stop};
 use crate::relayed;
 use crate::stun;
 use crate::sys::signals::Watch;
+use std::io::BufRead;
 use std::net::{Ipv4Addr, SocketAddr, SocketAddrV4};
 use std::ops::Range;
 use std::os::unix::net::UnixStream;
@@ -61,9 +62,15 @@ impl Batch {
 
     /// Takes in the answers of a text, as far as they are answers: the first that is none is given.
     fn take(&mut self, text: &[u8]) -> Result<(), String> {
-        for answer in text.split_inclusive(|&byte| byte == b'\n') {
+        let mut rest = text;
+        while !rest.is_empty() {
+            let behind = rest;
+            // Nothing can fail here; std finds the end of a line faster than a loop over its bytes does.
+            let length = rest.skip_until(b'\n').unwrap_or(0);
             // What has no newline was cut short when the program ended.
-            let Some(answer) = answer.strip_suffix(b"\n") else { break };
+            let Some(answer) = behind[..length].strip_suffix(b"\n") else {
+                break;
+            };
             let begin = self.bytes.len();
             let read = line::read(answer, &mut self.bytes);
             let read = read.ok_or_else(|| format!("answers '{}'", String::from_utf8_lossy(answer)))?;

@@ -13,11 +13,12 @@ relayd user add NAME [--number NUMBER] [--realm REALM] [--credentials FILE]     
 relayd user remove NAME [--credentials FILE]
 relayd user list [--credentials FILE]
 The number is from 1 to 32, the lowest free one if not given; names may share it. The realm is for a new file, mudsluice
-if not given. The file is /etc/relayd/credentials if not given.
+if not given. The file is /etc/mudsluice/credentials if not given.
 ";
 /// Where the file is if nobody says.
-const FILE: &str = "/etc/relayd/credentials";
+const FILE: &str = "/etc/mudsluice/credentials";
 const REALM: &str = "mudsluice";
+const NEW: &str = "The file is new, and its owner's alone: for a service of another user, chgrp it to that user's group and chmod 640\n";
 
 /// The words after `user`.
 struct Asked<'a> {
@@ -76,6 +77,7 @@ impl<'a> Asked<'a> {
 
 fn add(asked: &Asked, name: &str, ask: impl FnOnce(&str) -> Result<String, String>) -> Result<String, String> {
     word("name", name)?;
+    let is_new = !asked.file.exists();
     let (text, credentials) = existing(&asked.file, asked.realm)?;
     let chosen = asked.number.map(number).transpose()?;
     let known = credentials.number_of(name);
@@ -86,8 +88,9 @@ fn add(asked: &Asked, name: &str, ask: impl FnOnce(&str) -> Result<String, Strin
     let keys = Keys::derive(name.as_bytes(), credentials.realm.as_bytes(), password.as_bytes());
     replace(&asked.file, &(without(&text, name) + &user_line(name, number, &keys) + "\n"))?;
     let what = if known.is_some() { "has a new password" } else { "is added" };
+    let new = if is_new { NEW } else { "" };
     Ok(format!(
-        "{name} {what}, with number {number}, in realm {}; SIGHUP makes a running relayd read it\n",
+        "{name} {what}, with number {number}, in realm {}; SIGHUP makes a running relayd read it\n{new}",
         credentials.realm
     ))
 }
@@ -277,6 +280,12 @@ mod tests {
         assert!(Credentials::load(&path).is_ok());
         fs::set_permissions(&path, fs::Permissions::from_mode(0o644)).expect("all may read it");
         assert!(Credentials::load(&path).err().is_some_and(|why| why.contains("mode 644")));
+        folder.user("add carol", "third").expect("a third user");
+        assert_eq!(
+            fs::metadata(&path).expect("it is there").mode() & 0o777,
+            0o640,
+            "others are shut out again"
+        );
     }
 
     #[test]
