@@ -15,6 +15,8 @@ sys.path.insert(0, str(pathlib.Path(__file__).resolve().parent))
 sys.dont_write_bytecode = True
 import turn
 
+ROOT = pathlib.Path(__file__).resolve().parents[2]
+CREDENTIALS = pathlib.Path("/etc/mudsluice/credentials")
 UNIT = pathlib.Path("/lib/systemd/system/relayd.service")
 
 
@@ -88,6 +90,17 @@ def service(user):
         process.wait()
 
 
+def credentials(user):
+    """A user is added where the package has its files, and the service's user can read it. Not where relayd was built without its front end."""
+    if subprocess.run([ROOT / "host/relayd/packages", "--there"], check=False).returncode != 0:
+        return
+    done = subprocess.run(["/usr/sbin/relayd", "user", "add", "alice"], input="opensesame\n", capture_output=True, text=True, check=False)
+    assert done.returncode == 0, done
+    os.chown(CREDENTIALS, 0, pwd.getpwnam(user).pw_gid)
+    CREDENTIALS.chmod(0o640)
+    run(*as_unit(user, command("ExecStartPre", f"--listen 127.0.0.1:3478 --credentials {CREDENTIALS}")))
+
+
 def main(package):
     run("dpkg", "--install", package)
     user = unit_lines("User")[0]
@@ -98,6 +111,7 @@ def main(package):
     assert "relayd 0." in run("/usr/sbin/relayd", "--version")
     assert "Mudsluice" in run("man", "--pager=cat", "relayd")
     assert "49152-49279" in pathlib.Path("/usr/lib/sysctl.d/50-mudsluice.conf").read_text()
+    credentials(user)
     service(user)
     run("dpkg", "--purge", "mudsluice")
     assert not UNIT.exists() and not os.path.exists("/usr/lib/mudsluice") and not os.path.exists("/etc/mudsluice")

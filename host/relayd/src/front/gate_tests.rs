@@ -513,11 +513,10 @@ fn bad_credentials_are_not_taken_over_good_ones() {
     assert_eq!(passed(&mut front, &good).0, 3);
 }
 
-/// Not a check: what the gate costs, for docs/PERFORMANCE.md (make bench-front).
+/// Not a check: what the gate costs, for docs/PERFORMANCE.md (make bench-front). The least of some rounds, since others use the machine too.
 #[test]
 #[ignore = "a measurement"]
 fn what_checking_costs() {
-    const TIMES: u32 = 20_000;
     let mut front = front();
     let mut response = request(9, &[]);
     response[0] = 1;
@@ -529,21 +528,25 @@ fn what_checking_costs() {
         ("checked and signed by SHA-1", Ask::old(&front, NAME, PASSWORD).bytes()),
         ("checked and signed by SHA-256", Ask::new(&front, NAME, PASSWORD).bytes()),
         (
-            "time-limited, the second of two secrets, SHA-1",
-            Ask::old(&front, timed, password.as_bytes()).bytes(),
+            "the same, a time-limited name by the second of two secrets",
+            Ask::new(&front, timed, password.as_bytes()).bytes(),
         ),
     ];
     for (what, datagram) in cases {
-        let begin = std::time::Instant::now();
-        for round in 0..TIMES {
-            let moment = Moment {
-                now: MOMENT.now + u64::from(round) / 32,
-                ..MOMENT
-            };
-            if let Verdict::Pass(Some(known)) = front.admit(moment, client(), &datagram) {
-                std::hint::black_box(known.signer.sign(&response));
-            }
-        }
-        println!("{:7} ns  {what}", begin.elapsed().as_nanos() / u128::from(TIMES));
+        let least = (0..20).map(|_| nanoseconds(&mut front, &datagram, &response)).min();
+        println!("{:6} ns  {what}", least.unwrap_or(0));
     }
+}
+
+/// What one datagram takes, with the signature of its response if it gets one.
+fn nanoseconds(front: &mut Front, datagram: &[u8], response: &[u8]) -> u128 {
+    const TIMES: u32 = 2000;
+    let begin = std::time::Instant::now();
+    for round in 0..TIMES {
+        let now = MOMENT.now + u64::from(round / CHALLENGES);
+        if let Verdict::Pass(Some(known)) = front.admit(Moment { now, ..MOMENT }, client(), datagram) {
+            std::hint::black_box(known.signer.sign(response));
+        }
+    }
+    begin.elapsed().as_nanos() / u128::from(TIMES)
 }
