@@ -60,7 +60,7 @@ impl Gate {
 
 /// The peer of a request for a permission or a channel that is local to this host, if it has one.
 pub fn local_peer(datagram: &[u8]) -> Option<Ipv4Addr> {
-    if !matches!(stun::kind(datagram), stun::CREATE_PERMISSION | stun::CHANNEL_BIND) {
+    if !matches!(stun::kind(datagram), stun::CREATE_PERMISSION | stun::CHANNEL_BIND) || !stun::has_a_header(datagram) {
         return None;
     }
     stun::peers(datagram).map(|peer| *peer.ip()).find(|host| is_local(*host))

@@ -120,8 +120,10 @@ fn run(config: Config) -> Result<(), Trouble> {
         clock_offset: config.clock_offset,
     };
     let buffers = format!("{about}, with receive buffers of {} bytes", parts.desk.sockets.buffer);
-    say(&buffers);
-    parts.desk.event(&buffers);
+    say(buffers.trim_start_matches("relayd "));
+    if !parts.desk.log.is_standard_error() {
+        parts.desk.event(&buffers);
+    }
     let ended = Server::new(parts).and_then(Server::run);
     ended.map_err(|stop| match stop {
         Stop::Failed(why) => Trouble::Running(why),
