@@ -1,6 +1,7 @@
 # make run: prove and build calls, and show it at work. make test: all checks. make fuzz N=..: calls against the model, with new seeds.
 # make edits: the edits that the gate leaves out. make bench: instructions a line. make interop: real clients through the daemon.
-.PHONY: test run edits fuzz bench fmt relayd relayd-test calls interop
+# make bench-relayd: what a packet costs there. make package: the daemon's Debian package.
+.PHONY: test run edits fuzz bench bench-relayd fmt relayd relayd-test calls interop package
 
 CALLS ?= target/bin/calls
 N ?= 100
@@ -48,6 +49,15 @@ calls: $(CALLS)
 target/bin/calls:
 	rt check calls
 
+# As root.
+bench-relayd: relayd $(CALLS)
+	tests/interop/packages
+	CALLS=$(CALLS) bench/side_by_side.py
+
+package: $(CALLS)
+	CALLS=$(CALLS) packaging/build
+
+# As root.
 interop: relayd $(CALLS)
 	tests/interop/packages
 	cd host/relayd && CALLS=$(abspath $(CALLS)) cargo test --release --offline --quiet -- --ignored
