@@ -1,7 +1,8 @@
 # make run: prove and build calls, and show it at work. make test: all checks. make fuzz N=..: calls against the model, with new seeds.
 # make edits: the edits that the gate leaves out. make bench: instructions a line. make interop: real clients through the daemon.
-# make browser: a browser through the daemon. make bench-front: what the front end costs.
-.PHONY: test run edits fuzz bench fmt relayd relayd-test calls interop browser bench-front
+# make bench-relayd: what a packet costs there. make package: the daemon's Debian package.
+# make browser: a browser through the daemon. make bench-front: what its front end costs.
+.PHONY: test run edits fuzz bench bench-relayd bench-front fmt relayd relayd-test calls interop browser package
 
 CALLS ?= target/bin/calls
 N ?= 100
@@ -48,12 +49,21 @@ calls: $(CALLS)
 target/bin/calls:
 	rt check calls
 
+# As root.
+bench-relayd: relayd $(CALLS)
+	tests/interop/packages
+	CALLS=$(CALLS) bench/side_by_side.py
+
+package: $(CALLS)
+	CALLS=$(CALLS) packaging/build
+
+# As root.
 interop: relayd $(CALLS)
 	tests/interop/packages
 	CALLS=$(abspath $(CALLS)) host/relayd/cargo test --release -- --ignored
 	CALLS=$(CALLS) tests/interop/run
 
-# The demo's page in headless Chromium, through the daemon: some five minutes.
+# The demo's page in headless Chromium, through the daemon: some five minutes, as root.
 browser: relayd $(CALLS)
 	tests/browser/packages
 	CALLS=$(CALLS) tests/browser/run

@@ -6,12 +6,15 @@
 //! A client's other datagrams go to PEER from that socket, and what comes to that socket goes to it from SERVER, unchanged. One thread,
 //! epoll, up to 32 datagrams of a socket at a time. Only for the bench: it trusts everybody.
 
-mod epoll;
+#[allow(dead_code)]
+#[path = "../host/relayd/src/sys/mod.rs"]
+mod sys;
 
 use std::collections::HashMap;
 use std::env;
 use std::io;
 use std::net::{SocketAddr, UdpSocket};
+use std::time::Duration;
 
 struct Forwarder {
     server: UdpSocket,
@@ -73,11 +76,15 @@ impl Forwarder {
     }
 
     fn run(mut self) -> io::Result<()> {
-        let waiting = epoll::Epoll::on(std::iter::once(&self.server).chain(&self.relays))?;
-        let mut buffer = vec![0; 1 << 16];
+        let mut waiting = sys::epoll::Epoll::new()?;
+        for (place, socket) in std::iter::once(&self.server).chain(&self.relays).enumerate() {
+            waiting.add(socket, place as u64)?;
+        }
+        let (mut buffer, mut ready) = (vec![0; 1 << 16], Vec::new());
         loop {
-            for place in waiting.wait(-1)? {
-                self.drain(place, &mut buffer)?;
+            waiting.wait(Duration::from_secs(1), &mut ready)?;
+            for &place in &ready {
+                self.drain(place as usize, &mut buffer)?;
             }
         }
     }

@@ -1,14 +1,17 @@
 //! Load for one relay, and what it cost: CPU time of the relay's processes for each packet that it passed on, and how long one took.
 //!
-//!     load turn|bare SERVER PEER COUNT SIZE up|down MILLISECONDS PACE PID...
+//!     load turn|bare SERVER PEER COUNT SIZE up|down|PORT MILLISECONDS PACE PID...
 //!
 //! Makes COUNT clients (ports 20000 and up on PEER's address) with a channel each to one peer, and then sends packets of SIZE bytes of
 //! data through all of them in turn: up is from the clients to the peer, down the other way. PACE is packets a second; 0 is as fast as one
 //! thread can. Prints: packets sent, packets passed on, the median and the 99th percentile of the nanoseconds that one took from its
 //! sender to its receiver (0 without a pace), nanoseconds of CPU of each PID over all its threads. A packet that the relay sent and that
-//! its receiver had no room for counts as passed on (/proc/net/udp tells how many those are).
+//! its receiver had no room for counts as passed on (/proc/net/udp tells how many those are). With a PORT in place of a direction, a
+//! stranger (127.0.0.9) sends to the 128 ports from it on, at that pace, and nothing is passed on.
 
-mod epoll;
+#[allow(dead_code)]
+#[path = "../host/relayd/src/sys/mod.rs"]
+mod sys;
 
 use std::env;
 use std::fs;
@@ -202,10 +205,14 @@ impl Run {
         let (receivers, begin) = (self.receivers(load.up), Instant::now());
         // Behind the head of ChannelData, which what comes down to a TURN client has too.
         let stamp_in = if !load.up && self.turn { 4 } else { 0 };
-        let (waiting, mut took, mut buffer) = (epoll::Epoll::on(receivers.iter().copied())?, Vec::new(), [0; 2048]);
+        let (mut waiting, mut ready, mut took, mut buffer) = (sys::epoll::Epoll::new()?, Vec::new(), Vec::new(), [0; 2048]);
+        for (place, socket) in receivers.iter().enumerate() {
+            waiting.add(*socket, place as u64)?;
+        }
         let mut look = || -> Result<()> {
-            for place in waiting.wait(0)? {
-                while let Ok(length) = receivers[place].recv(&mut buffer) {
+            waiting.wait(Duration::ZERO, &mut ready)?;
+            for &place in &ready {
+                while let Ok(length) = receivers[place as usize].recv(&mut buffer) {
                     let sent = u64::from_be_bytes(buffer[..length].get(stamp_in..stamp_in + 8).ok_or("too short")?.try_into()?);
                     took.push(nanoseconds(begin).saturating_sub(sent));
                 }
@@ -228,6 +235,22 @@ impl Run {
         Ok((sent, took))
     }
 
+    /// Sends to 128 ports in turn, at the pace, as one who has no permission.
+    fn flood(&self, load: &Load, first: u16) -> Result<u64> {
+        let (stranger, packet) = (UdpSocket::bind("127.0.0.9:0")?, vec![b'x'; load.size]);
+        let (mut sent, begin, interval) = (0, Instant::now(), 1_000_000_000 / load.pace);
+        for place in 0..load.time.as_nanos() as u64 / interval {
+            while nanoseconds(begin) < place * interval {
+                std::hint::spin_loop();
+            }
+            // A port that nobody has answers with an error, which the next send would give.
+            let _ = stranger.take_error();
+            let to = SocketAddr::new(self.relayed[0].ip(), first + (place % 128) as u16);
+            sent += u64::from(stranger.send_to(&packet, to).is_ok());
+        }
+        Ok(sent)
+    }
+
     fn measure(&self, load: &Load, pids: &[String]) -> Result<String> {
         let receivers = self.receivers(load.up);
         for socket in &receivers {
@@ -235,7 +258,9 @@ impl Run {
         }
         let cpu_now = || pids.iter().map(|pid| cpu(pid)).collect::<Result<Vec<u64>>>();
         let (before, lost_before) = (cpu_now()?, overflow(&receivers)?);
-        let (sent, came, mut took) = if load.pace == 0 {
+        let (sent, came, mut took) = if let Some(first) = load.flood {
+            (self.flood(load, first)?, 0, vec![0])
+        } else if load.pace == 0 {
             let (sent, came) = self.saturate(load);
             (sent, came, vec![0])
         } else {
@@ -261,6 +286,7 @@ impl Run {
 
 /// What is sent, which way, for how long and at what pace.
 struct Load {
+    flood: Option<u16>,
     up: bool,
     size: usize,
     time: Duration,
@@ -289,6 +315,7 @@ fn main() -> Result<()> {
     };
     let run = Run::new(kind == "turn", server.parse()?, peer.parse()?, count.parse()?)?;
     let load = Load {
+        flood: direction.parse().ok(),
         up: direction == "up",
         size: size.parse()?,
         time: Duration::from_millis(time.parse()?),

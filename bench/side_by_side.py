@@ -28,6 +28,7 @@ RELAYS = ("bare", "coturn", "relayd")
 Case = collections.namedtuple("Case", "pace direction size count")
 PACED = [Case(pace, direction, size, 64) for pace in (5000, 20000) for direction in ("up", "down") for size in (160, 1200)]
 SATURATED = [Case(0, direction, size, count) for direction in ("up", "down") for size in (160, 1200) for count in (1, 64)]
+FLOOD = {"coturn": 50000, "relayd": 49152}
 LOAD_CORE, RELAY_CORE = {0}, {max(os.sched_getaffinity(0))}
 
 
@@ -99,6 +100,12 @@ def measure(relay, case, milliseconds):
     return Sample(sent, passed, median, late, spent)
 
 
+def flood(relay, first, milliseconds):
+    """The share of a core that a flood of 20,000 packets a second costs at 128 relay ports, 64 of them with an allocation."""
+    sample = measure(relay, Case(20000, first, 160, 64), milliseconds)
+    return 100 * sum(sample.nanoseconds) / (milliseconds * 1e6)
+
+
 def each(samples):
     return [sum(sample.nanoseconds) / sample.passed for sample in samples]
 
@@ -133,6 +140,7 @@ def main(rounds=7, milliseconds=500):
     alone()
     build()
     results = {case: {name: [] for name in RELAYS} for case in PACED + SATURATED}
+    floods = {name: [] for name in FLOOD}
     loads = [os.getloadavg()[0]]
     signal.signal(signal.SIGTERM, lambda *_: sys.exit("side_by_side: ended by a signal"))
     with tempfile.TemporaryDirectory() as folder:
@@ -142,6 +150,8 @@ def main(rounds=7, milliseconds=500):
                 for case in results:
                     for name, relay in relays.items():
                         results[case][name].append(measure(relay, case, milliseconds))
+                for name, first in FLOOD.items():
+                    floods[name].append(flood(relays[name], first, milliseconds))
                 loads.append(os.getloadavg()[0])
                 print(f"round {place + 1} of {rounds}", file=sys.stderr)
         finally:
@@ -149,6 +159,8 @@ def main(rounds=7, milliseconds=500):
     table(results, PACED, "packets/s", [f"{name} p50 / p99 µs | lost" for name in RELAYS])
     print()
     table(results, SATURATED, "allocations", [f"{name} lost" for name in RELAYS])
+    costs = ", ".join(f"{name} {statistics.median(shares):.1f}%" for name, shares in floods.items())
+    print(f"\nA flood of 20,000 packets a second at 128 relay ports, without permission, takes of one core: {costs}.")
     relayd = [sample for found in results.values() for sample in found["relayd"]]
     share = sum(sample.nanoseconds[0] for sample in relayd) / sum(sum(sample.nanoseconds) for sample in relayd)
     print(f"\n{rounds} rounds of {milliseconds} ms. Of relayd's time {100 * share:.0f}% is its own and {100 - 100 * share:.0f}% is calls'.")

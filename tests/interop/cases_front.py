@@ -1,5 +1,7 @@
 """The front end: clients with credentials, and those that have wrong ones."""
+import contextlib
 import os
+import pty
 import struct
 import time
 
@@ -8,7 +10,7 @@ import turn
 from cases_clients import aioice, echo, uclient
 from cases_relay import refused
 from credentials import INTEGRITY, INTEGRITY_SHA256, USERS, Client, timed
-from lab import PEER, PORT, SERVER, SERVER6
+from lab import PEER, PORT, RELAYD, SERVER, SERVER6
 
 ALICE = ("alice", USERS["alice"][0])
 BOB = ("bob", USERS["bob"][0])
@@ -93,6 +95,58 @@ def case_errors_signed(lab):
                 answer = own.sock.recv(65536)
                 assert struct.unpack("!BB", answer[26:28]) == (code // 100, code % 100), answer.hex()
                 own.check(answer)
+
+
+def raw(client, request):
+    """The answer to these bytes, as it came."""
+    client.sock.send(request)
+    client.sock.settimeout(5)
+    return client.sock.recv(65536)
+
+
+def case_against_unsigned(lab):
+    "each signed answer is the relay's own bytes and then the signature: the same requests to a relayd that checks no passwords"
+    peer = turn.attribute(turn.PEER, turn.xor_address(PEER, 5000))
+    asked = [(turn.REFRESH, []), (turn.ALLOCATE, []), (turn.ALLOCATE, [UDP]), (turn.ALLOCATE, [UDP]), (turn.PERMIT, [peer]), (turn.PERMIT, []),
+             (turn.BIND, [turn.attribute(turn.CHANNEL_NUMBER, bytes([0x40, 0, 0, 0])), peer]), (turn.REFRESH, [turn.attribute(0x7FFF, b"")]),
+             (turn.REFRESH, [turn.attribute(turn.LIFETIME, bytes(4))])]
+    for server in (SERVER, SERVER6):
+        for options in ({}, {"sha256": True}):
+            size = 36 if options else 24
+            with credentials.relayd(lab):
+                own = client(lab, *ALICE, server=server, **options)
+                refused(lambda: own.refresh(600), 437)
+                requests = [own.make(kind, os.urandom(12), attributes) for kind, attributes in asked]
+                signed = [raw(own, request) for request in requests]
+            with lab.relayd(user=str(USERS["alice"][1])):
+                unsigned = [raw(own, request) for request in requests]
+            for one, other in zip(signed, unsigned):
+                own.check(one)
+                # All but the length, and the relay port, which is taken at random.
+                port = slice(26, 28) if one[:2] == bytes([1, 3]) else slice(26, 26)
+                same = [bytes(found[:2] + found[4:port.start] + found[port.stop:]) for found in (one[:-size], other)]
+                assert same[0] == same[1] and len(one) == len(other) + size <= 100, (one.hex(), other.hex())
+
+
+def case_terminal(lab):
+    "relayd user add on a terminal: the password is asked for twice and not shown"
+    path = lab.folder / "typed"
+    for typed, status in ((["opensesame", "opensesame"], 0), (["opensesame", "opensesami"], 2)):
+        process, terminal = pty.fork()
+        if process == 0:
+            os.execv(RELAYD, [str(RELAYD), "user", "add", "alice", "--credentials", str(path)])
+        shown = b""
+        for answer in typed:
+            while not shown.endswith(b": "):
+                shown += os.read(terminal, 1000)
+            os.write(terminal, answer.encode() + b"\n")
+            shown += os.read(terminal, 1000)
+        with contextlib.suppress(OSError):
+            while more := os.read(terminal, 1000):
+                shown += more
+        assert os.waitstatus_to_exitcode(os.waitpid(process, 0)[1]) == status, shown
+        assert b"password of alice" in shown and b"opensesam" not in shown, shown
+    assert path.read_text().count("user alice 1 ") == 1 and "opensesam" not in path.read_text()
 
 
 def case_another_user(lab):
@@ -282,7 +336,7 @@ def uclient_case(what, who, *flags):
     return case
 
 
-CASES = [case_passwords, case_nobody, case_wrong, case_errors_signed, case_another_user, case_stale, case_replay, case_signatures, case_changed,
+CASES = [case_passwords, case_nobody, case_wrong, case_errors_signed, case_against_unsigned, case_terminal, case_another_user, case_stale, case_replay, case_signatures, case_changed,
          case_algorithms, case_slowed, case_reload, case_local_peer, case_told, case_mode, case_aioice,
          uclient_case("with a password, channels", lambda: ALICE),
          uclient_case("with a password, Send and Data", lambda: ALICE, "-s"),

@@ -5,7 +5,7 @@ use crate::counters::Cause;
 use crate::front::{self, Front, Known, Moment, Signer, Verdict};
 use crate::stun;
 use crate::users::{self, Users};
-use std::net::{Ipv4Addr, SocketAddr};
+use std::net::{IpAddr, Ipv4Addr, SocketAddr};
 
 /// Document 01's longest datagram.
 const LONGEST: usize = 1500;
@@ -62,6 +62,14 @@ pub fn garbage_from_peer(length: usize) -> Option<Cause> {
     (length > LONGEST).then_some(Cause::TooLong)
 }
 
+/// Whether a client's address is of Teredo or 6to4: RFC 8656 section 21.4 lets none allocate.
+fn is_tunnelled(client: SocketAddr) -> bool {
+    match client.ip() {
+        IpAddr::V4(_) => false,
+        IpAddr::V6(ip) => matches!(ip.segments(), [0x2001, 0, ..] | [0x2002, ..]),
+    }
+}
+
 /// Who may send what.
 pub struct Gate {
     pub users: Users,
@@ -76,6 +84,9 @@ impl Gate {
     pub fn admit(&mut self, moment: Moment, from: SocketAddr, datagram: &[u8], length: usize) -> Admission {
         if let Some(cause) = garbage(datagram, length) {
             return Admission::Drop(cause);
+        }
+        if is_tunnelled(from) {
+            return Admission::Drop(Cause::Tunnelled);
         }
         let sender = match self.front.as_mut().map(|front| front.admit(moment, from, datagram)) {
             None => Sender {
@@ -118,7 +129,7 @@ impl Gate {
 
 /// The peer of a request for a permission or a channel that is local to this host, if it has one.
 pub fn local_peer(datagram: &[u8]) -> Option<Ipv4Addr> {
-    if !matches!(stun::kind(datagram), stun::CREATE_PERMISSION | stun::CHANNEL_BIND) {
+    if !matches!(stun::kind(datagram), stun::CREATE_PERMISSION | stun::CHANNEL_BIND) || !stun::has_a_header(datagram) {
         return None;
     }
     stun::peers(datagram).map(|peer| *peer.ip()).find(|host| is_local(*host))
@@ -169,6 +180,17 @@ mod tests {
         assert_eq!(admit(&[64; 1501], 1501), Admission::Drop(Cause::TooLong));
         assert_eq!(garbage_from_peer(1500), None);
         assert_eq!(garbage_from_peer(1501), Some(Cause::TooLong));
+    }
+
+    #[test]
+    fn tunnels_are_dropped() {
+        let admit = |from: &str| gate(1).admit(MOMENT, from.parse().expect("an address"), &[64; 4], 4);
+        for from in ["[2001:0:1::1]:5", "[2002:c000:204::1]:5"] {
+            assert_eq!(admit(from), Admission::Drop(Cause::Tunnelled), "{from}");
+        }
+        for from in ["[2001:db8::1]:5", "[2003::1]:5", "32.1.0.0:5"] {
+            assert_eq!(admit(from), pass(1), "{from}");
+        }
     }
 
     #[test]

@@ -10,6 +10,8 @@ pub enum Cause {
     Senseless,
     /// It has over 1,500 bytes.
     TooLong,
+    /// Its source is an address of Teredo or 6to4.
+    Tunnelled,
     /// Its source has had its answers of this second, and no right credentials.
     Slowed,
     /// The relay dropped what a client sent.
@@ -28,9 +30,10 @@ pub enum Cause {
 
 impl Cause {
     /// Each, in the order of the status.
-    pub const ALL: [Cause; 9] = [
+    pub const ALL: [Cause; 10] = [
         Cause::Senseless,
         Cause::TooLong,
+        Cause::Tunnelled,
         Cause::Slowed,
         Cause::Client,
         Cause::Peer,
@@ -45,6 +48,7 @@ impl Cause {
         match self {
             Cause::Senseless => "neither STUN nor ChannelData",
             Cause::TooLong => "over 1,500 bytes",
+            Cause::Tunnelled => "from clients behind Teredo or 6to4",
             Cause::Slowed => "without right credentials, too many a second from one address",
             Cause::Client => "from clients: malformed, or no allocation, permission or channel",
             Cause::Peer => "from peers: no permission",
@@ -60,6 +64,7 @@ impl Cause {
         match self {
             Cause::Senseless => "senseless",
             Cause::TooLong => "too_long",
+            Cause::Tunnelled => "tunnelled",
             Cause::Slowed => "slowed",
             Cause::Client => "client",
             Cause::Peer => "peer",
@@ -110,6 +115,6 @@ mod tests {
             }
         }
         let counts: Vec<u64> = Cause::ALL.iter().map(|cause| counters.dropped(*cause)).collect();
-        assert_eq!(counts, (0..9).collect::<Vec<u64>>());
+        assert_eq!(counts, (0..10).collect::<Vec<u64>>());
     }
 }

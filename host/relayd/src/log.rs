@@ -75,6 +75,11 @@ impl Log {
         }
     }
 
+    /// Whether it goes where `say` does.
+    pub fn is_standard_error(&self) -> bool {
+        matches!(self.target, Target::StandardError)
+    }
+
     /// Whether each datagram is to be told.
     pub fn has_packets(&self) -> bool {
         self.packets && !matches!(self.target, Target::None)

@@ -133,8 +133,10 @@ fn run(config: Config) -> Result<(), Trouble> {
         clock_offset: config.clock_offset,
     };
     let buffers = format!("{about}, with receive buffers of {} bytes", parts.desk.sockets.buffer);
-    say(&buffers);
-    parts.desk.event(&buffers);
+    say(buffers.trim_start_matches("relayd "));
+    if !parts.desk.log.is_standard_error() {
+        parts.desk.event(&buffers);
+    }
     if let Some(credentials) = parts.desk.gate.front.as_ref().map(front::Front::told) {
         parts.desk.event(&format!("clients need credentials: {credentials}"));
     }

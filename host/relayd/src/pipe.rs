@@ -111,6 +111,11 @@ impl Pipe {
         self.program.stream()
     }
 
+    /// Whether the program has ended.
+    pub fn is_over(&self) -> bool {
+        self.program.is_over()
+    }
+
     /// Begins a new batch.
     pub fn clear(&mut self) {
         self.batch.clear();

@@ -1,7 +1,7 @@
 //! The proved program `calls` as a process: started from a descriptor that is held open, asked over a pair of stream sockets, with a
 //! deadline for each answer.
 
-use crate::sys::options::{has_input, keep_over_exec, send_now, wait_for_either};
+use crate::sys::options::{has_input, is_hung_up, keep_over_exec, send_now, wait_for_either};
 use crate::sys::signals::Watch;
 use std::fs::File;
 use std::io::{self, ErrorKind, Read};
@@ -86,6 +86,11 @@ impl Program {
         &self.stream
     }
 
+    /// Whether it has ended.
+    pub fn is_over(&self) -> bool {
+        is_hung_up(&self.stream)
+    }
+
     /// Puts whole lines, and the answers behind `answers` until `count` have come. Where it fails, what came is there.
     pub fn ask(&mut self, lines: &[u8], count: usize, answers: &mut Vec<u8>, watch: Watch) -> Result<(), Trouble> {
         let (mut rest, mut missing) = (lines, count);
@@ -139,7 +144,7 @@ impl Program {
 
     fn ended(&mut self, error: &io::Error) -> Trouble {
         // Its output may end a moment before the process does.
-        let give_up = Instant::now() + MOMENT;
+        let give_up = Instant::now() + 4 * MOMENT;
         loop {
             match self.child.try_wait() {
                 Ok(Some(status)) => return Trouble::Program(format!("has ended ({status})")),

@@ -112,6 +112,8 @@ impl Server {
             match token {
                 ENDING => return Err(Stop::Asked),
                 SIGNALS => asked = true,
+                // It may have been noticed and started again since the wait.
+                PROGRAM if !self.parts.relay.is_over() => {}
                 PROGRAM => self.restart("has ended", self.parts.desk.clock.now())?,
                 number => self.take(usize::try_from(number).unwrap_or(usize::MAX))?,
             }

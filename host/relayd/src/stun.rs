@@ -175,6 +175,12 @@ pub fn has_a_known_first_byte(datagram: &[u8]) -> bool {
     matches!(datagram.first(), Some(0..=3 | 64..=79))
 }
 
+/// Whether a datagram has the header of a STUN message of its length.
+pub fn has_a_header(datagram: &[u8]) -> bool {
+    let length = datagram.len().wrapping_sub(HEADER);
+    datagram.len() >= HEADER && usize::from(word(&datagram[2..])) == length && datagram[4..8] == COOKIE.to_be_bytes()
+}
+
 /// Whether a reply is a Data indication.
 pub fn is_data(message: &[u8]) -> bool {
     message.len() >= HEADER && kind(message) == DATA
@@ -253,6 +259,18 @@ mod tests {
         made.truncate(30);
         assert_eq!(attributes(&made).count(), 0);
         assert_eq!(attributes(b"").count(), 0);
+    }
+
+    #[test]
+    fn headers() {
+        let made = request(CREATE_PERMISSION, &[(LIFETIME, &[0; 4])]);
+        assert!(has_a_header(&made));
+        assert!(!has_a_header(&made[..27]) && !has_a_header(&made[..19]) && !has_a_header(b""));
+        for place in [3, 4, 7] {
+            let mut spoiled = made.clone();
+            spoiled[place] ^= 1;
+            assert!(!has_a_header(&spoiled));
+        }
     }
 
     #[test]

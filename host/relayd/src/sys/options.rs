@@ -19,6 +19,7 @@ const NEVER_WAIT: c_int = 0x40;
 const NO_SIGNAL: c_int = 0x4000;
 const INPUT: c_short = 1;
 const OUTPUT: c_short = 4;
+const HUNG_UP: c_short = 0x10;
 const SET_DESCRIPTOR_FLAGS: c_int = 2;
 
 /// `struct pollfd`.
@@ -128,6 +129,11 @@ fn waited_for(fd: RawFd, events: c_short, milliseconds: c_int) -> c_short {
 /// Whether this descriptor has input now.
 pub fn has_input(fd: RawFd) -> bool {
     waited_for(fd, INPUT, 0) & INPUT != 0
+}
+
+/// Whether the other end of this stream is gone.
+pub fn is_hung_up(stream: &impl AsRawFd) -> bool {
+    waited_for(stream.as_raw_fd(), 0, 0) & HUNG_UP != 0
 }
 
 /// Whether a write of up to 4,096 bytes to this descriptor would not wait. An error counts: the write tells it.
