@@ -22,6 +22,13 @@ def client(lab, name, password, server=SERVER, **options):
         return Client(name, password, server=(server, PORT), **options)
 
 
+def challenged(lab, *who, **options):
+    """A client that has had its challenge, and has no allocation."""
+    own = client(lab, *who, **options)
+    refused(lambda: own.refresh(600), 437)
+    return own
+
+
 def answered(client, request):
     """The error code of the answer to these bytes; 0 for a success, None if none comes."""
     try:
@@ -87,8 +94,7 @@ def case_errors_signed(lab):
     "the relay's own errors are signed too: 437, 442, 400, 420 with 16 unknown attributes"
     with credentials.relayd(lab):
         for options in ({}, {"sha256": True}):
-            own = client(lab, *ALICE, **options)
-            refused(lambda: own.refresh(600), 437)
+            own = challenged(lab, *ALICE, **options)
             for attributes, code in (([turn.attribute(turn.TRANSPORT, bytes([6, 0, 0, 0]))], 442), ([], 400),
                                      ([UDP, *[turn.attribute(0x7000 + place, b"") for place in range(20)]], 420)):
                 own.sock.send(own.make(turn.ALLOCATE, os.urandom(12), attributes))
@@ -114,8 +120,7 @@ def case_against_unsigned(lab):
         for options in ({}, {"sha256": True}):
             size = 36 if options else 24
             with credentials.relayd(lab):
-                own = client(lab, *ALICE, server=server, **options)
-                refused(lambda: own.refresh(600), 437)
+                own = challenged(lab, *ALICE, server=server, **options)
                 requests = [own.make(kind, os.urandom(12), attributes) for kind, attributes in asked]
                 signed = [raw(own, request) for request in requests]
             with lab.relayd(user=str(USERS["alice"][1])):
@@ -178,8 +183,7 @@ def case_stale(lab):
 def case_replay(lab):
     "a request taken down on the way and sent from another address or port gets 438, and makes nothing"
     with credentials.relayd(lab) as relayd:
-        own = client(lab, *ALICE)
-        refused(lambda: own.refresh(600), 437)
+        own = challenged(lab, *ALICE)
         taken = own.make(turn.ALLOCATE, os.urandom(12), [UDP])
         for thief in (lab.client(), lab.client(SERVER6)):
             assert answered(thief, taken) == 438
@@ -191,8 +195,7 @@ def case_signatures(lab):
     "truncated signatures get 400, doubled ones count once, attributes after the signature count for nothing"
     with credentials.relayd(lab) as relayd:
         for options, kind, size in (({}, INTEGRITY, 20), ({"sha256": True}, INTEGRITY_SHA256, 32)):
-            own = client(lab, *ALICE, **options)
-            refused(lambda: own.refresh(600), 437)
+            own = challenged(lab, *ALICE, **options)
 
             def allocate(change):
                 whole = own.make(turn.ALLOCATE, os.urandom(12), [UDP])
@@ -212,8 +215,7 @@ def case_signatures(lab):
 def case_changed(lab):
     "a request with any one byte changed on its way makes nothing: 401, 400, 438, or no answer"
     with credentials.relayd(lab) as relayd:
-        own = client(lab, *ALICE)
-        refused(lambda: own.refresh(600), 437)
+        own = challenged(lab, *ALICE)
         whole = own.make(turn.ALLOCATE, os.urandom(12), [UDP])
         for place in range(len(whole)):
             own.sock.send(whole[:place] + bytes([whole[place] ^ 0x04]) + whole[place + 1:])
@@ -224,8 +226,7 @@ def case_changed(lab):
 def case_algorithms(lab):
     "an offer of algorithms cut on the way gets 400"
     with credentials.relayd(lab):
-        own = client(lab, *ALICE, sha256=True)
-        refused(lambda: own.refresh(600), 437)
+        own = challenged(lab, *ALICE, sha256=True)
         own.challenge[credentials.PASSWORD_ALGORITHMS] = credentials.SHA256
         assert answered(own, own.make(turn.ALLOCATE, os.urandom(12), [UDP])) == 400
 

@@ -48,7 +48,7 @@ impl Cause {
         match self {
             Cause::Senseless => "neither STUN nor ChannelData",
             Cause::TooLong => "over 1,500 bytes",
-            Cause::Tunnelled => "from clients behind Teredo or 6to4",
+            Cause::Tunnelled => "sent from Teredo or 6to4 addresses",
             Cause::Slowed => "without right credentials, too many a second from one address",
             Cause::Client => "from clients: malformed, or no allocation, permission or channel",
             Cause::Peer => "from peers: no permission",

@@ -258,7 +258,13 @@ impl Parts {
     /// A client's datagram on its way to the relay: here it gets its user number, an answer, or is dropped.
     fn put_client(&mut self, moment: Moment, received: &Received, datagram: &[u8]) -> Result<Option<Sender>, Stop> {
         let (from, now, arrival) = (received.from, moment.now, Arrival::Client(received.from));
-        let nobody = &Sender::default();
+        let sender = &Sender::default();
+        let call = Call {
+            now,
+            arrival,
+            sender,
+            datagram,
+        };
         match self.desk.gate.admit(moment, from, datagram, received.length) {
             Admission::Pass(sender) => {
                 let start = self
@@ -268,33 +274,8 @@ impl Parts {
                 self.relay.client(now, sender.user, start, from, datagram);
                 return Ok(Some(sender));
             }
-            Admission::Reply(sender, response) => {
-                let sender = &sender;
-                self.desk.respond(
-                    &Call {
-                        now,
-                        arrival,
-                        sender,
-                        datagram,
-                    },
-                    from,
-                    &response,
-                );
-            }
-            Admission::TurnAway(cause, response) => {
-                let sender = nobody;
-                self.desk.turn_away(
-                    &Call {
-                        now,
-                        arrival,
-                        sender,
-                        datagram,
-                    },
-                    from,
-                    &cause,
-                    &response,
-                );
-            }
+            Admission::Reply(sender, response) => self.desk.respond(&Call { sender: &sender, ..call }, from, &response),
+            Admission::TurnAway(cause, response) => self.desk.turn_away(&call, from, &cause, &response),
             Admission::Drop(cause) => self.desk.drop(arrival, received.length, cause),
             Admission::Alarm(cause, why) => {
                 self.desk.drop(arrival, received.length, cause);
