@@ -263,8 +263,8 @@ def drain(sock):
 
 
 def case_reload(lab):
-    "SIGHUP reads the credentials again: a removed user's allocation is not refreshed and gets no permission, but stays to its end; a bad file changes nothing"
-    with credentials.relayd(lab) as relayd:
+    "SIGHUP reads the credentials again: a removed user's allocation is not refreshed and gets no permission, and ends at its expiry; a bad file changes nothing"
+    with credentials.relayd(lab, "--clock-offset", "600") as relayd:
         own, path = client(lab, *ALICE), lab.folder / "credentials"
         own.allocate()
         credentials.remove_user(path, "alice")
@@ -275,6 +275,8 @@ def case_reload(lab):
         path.write_text("realm example.org\nuser bob 99\n")
         assert "stay as they were" in credentials.reload(relayd)
         client(lab, *BOB).allocate()
+        relayd.forward()
+        assert users_of(relayd) == []
 
 
 def case_local_peer(lab):

@@ -8,7 +8,6 @@ class Call {
     this.callee = new RTCPeerConnection(settings);
     this.candidates = { caller: [], callee: [] };
     this.errors = [];
-    this.tracks = [];
     this.gather("caller", this.caller, this.callee);
     this.gather("callee", this.callee, this.caller);
     this.echo();
@@ -34,6 +33,7 @@ class Call {
   }
 
   addVideo(stream) {
+    this.stream = stream;
     for (const track of stream.getTracks()) this.caller.addTrack(track, stream);
   }
 
@@ -69,6 +69,7 @@ class Call {
   close() {
     this.caller.close();
     this.callee.close();
+    for (const track of this.stream?.getTracks() ?? []) track.stop();
   }
 }
 
@@ -83,8 +84,9 @@ async function camera() {
 
 function drawn() {
   const canvas = Object.assign(document.createElement("canvas"), { width: 640, height: 480 });
-  const pen = canvas.getContext("2d");
-  setInterval(() => {
+  const pen = canvas.getContext("2d"), stream = canvas.captureStream(20);
+  const timer = setInterval(() => {
+    if (!stream.active) clearInterval(timer);
     const turn = performance.now() / 1000;
     pen.fillStyle = "#2f6b4f";
     pen.fillRect(0, 0, 640, 480);
@@ -93,5 +95,5 @@ function drawn() {
     pen.arc(320 + 180 * Math.cos(turn), 240 + 120 * Math.sin(turn), 60, 0, 2 * Math.PI);
     pen.fill();
   }, 50);
-  return canvas.captureStream(20);
+  return stream;
 }

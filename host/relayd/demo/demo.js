@@ -14,6 +14,7 @@ function addresses(candidates) {
 }
 
 async function show() {
+  if (!call) return;
   at("caller-candidates").textContent = addresses(call.candidates.caller);
   at("callee-candidates").textContent = addresses(call.candidates.callee);
   at("caller-state").textContent = call.caller.connectionState;
@@ -21,8 +22,7 @@ async function show() {
   const { frames, bytes } = await call.received();
   at("frames").textContent = frames.toLocaleString("en");
   at("received").textContent = `${Math.round(bytes / 1000).toLocaleString("en")} kB`;
-  const gathered = call.caller.iceGatheringState === "complete";
-  if (gathered && call.candidates.caller.length === 0) tell(`The relay gave no address: ${call.errors[0] ?? "no answer"}`, true);
+  if (call.candidates.caller.length === 0 && call.errors.length) tell(`The relay gave no address: ${call.errors[0]}`, true);
 }
 
 // Messages all the time, a hundred in a round.

@@ -3,6 +3,7 @@
 use crate::clock::{days, minutes};
 use crate::counters::Cause;
 use crate::desk::Desk;
+use crate::front::Front;
 use crate::ledger::{Allocation, Flow, SLOTS};
 use std::fmt::Write;
 
@@ -52,8 +53,9 @@ fn put_counts(text: &mut String, desk: &Desk, restarted: u64) {
     let _ = writeln!(text, "  to clients: {}", flow(counters.to_clients));
     let refused: u64 = counters.refusals.values().sum();
     let _ = writeln!(text, "  requests: {} accepted, {refused} refused", counters.accepted);
-    if let Some(front) = &desk.gate.front {
-        let counts: Vec<String> = front.counts().iter().map(|(what, times)| format!("{times} {what}")).collect();
+    let counts = desk.gate.front.as_ref().map(Front::counts).unwrap_or_default();
+    if !counts.is_empty() {
+        let counts: Vec<String> = counts.iter().map(|(what, times)| format!("{times} {what}")).collect();
         let _ = writeln!(text, "  credentials: {}", counts.join(", "));
     }
     let _ = writeln!(text, "  starts of the relay's program after the first: {restarted}");

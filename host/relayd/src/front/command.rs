@@ -154,7 +154,8 @@ fn replace(file: &Path, text: &str) -> Result<(), String> {
     let mut new = file.as_os_str().to_os_string();
     new.push(".new");
     let written = || -> io::Result<()> {
-        let mut out = File::options().create(true).write(true).truncate(true).mode(0o600).open(&new)?;
+        let _ = fs::remove_file(&new);
+        let mut out = File::options().create_new(true).write(true).mode(0o600).open(&new)?;
         if let Ok(old) = fs::metadata(file) {
             chown(&new, Some(old.uid()), Some(old.gid()))?;
             out.set_permissions(fs::Permissions::from_mode(old.mode() & 0o640))?;
@@ -163,7 +164,10 @@ fn replace(file: &Path, text: &str) -> Result<(), String> {
         out.sync_all()?;
         fs::rename(&new, file)
     };
-    written().map_err(|error| format!("cannot write {}: {error}", file.display()))
+    written().map_err(|error| {
+        let _ = fs::remove_file(&new);
+        format!("cannot write {}: {error}", file.display())
+    })
 }
 
 /// A password of characters that need no preparation.
@@ -183,9 +187,9 @@ fn ask_password(name: &str) -> Result<String, String> {
     if !io::stdin().is_terminal() {
         return line();
     }
-    echo("-echo")?;
+    stty(&["-echo", "-isig"])?;
     let asked = prompt(&format!("password of {name}: ")).and_then(|first| Ok((first, prompt("once more: ")?)));
-    echo("echo")?;
+    stty(&["echo", "isig"])?;
     let (first, second) = asked?;
     if first == second {
         Ok(first)
@@ -210,10 +214,9 @@ fn line() -> Result<String, String> {
     Ok(line.trim_end_matches(['\n', '\r']).to_string())
 }
 
-/// Whether the terminal shows what is typed.
-fn echo(setting: &str) -> Result<(), String> {
-    let done = Command::new("stty").arg(setting).stdin(Stdio::inherit()).status();
-    match done {
+/// Sets how the terminal behaves: whether it shows what is typed, and whether Ctrl-C ends relayd, which would leave it dark.
+fn stty(settings: &[&str]) -> Result<(), String> {
+    match Command::new("stty").args(settings).stdin(Stdio::inherit()).status() {
         Ok(status) if status.success() => Ok(()),
         _ => Err("cannot hide what is typed: stty failed".to_string()),
     }
