@@ -135,7 +135,7 @@ impl Program {
             Ok(length) => {
                 let came = &self.room[..length];
                 answers.extend_from_slice(came);
-                Ok(came.iter().map(|&byte| usize::from(byte == b'\n')).sum())
+                Ok(count_lines(came))
             }
             Err(error) if matches!(error.kind(), ErrorKind::WouldBlock | ErrorKind::Interrupted) => Ok(0),
             Err(error) => Err(self.ended(&error)),
@@ -159,6 +159,12 @@ impl Program {
     pub fn id(&self) -> u32 {
         self.child.id()
     }
+}
+
+/// How many lines end in this text. In parts short enough to be counted in bytes, many of which the compiler adds at once.
+fn count_lines(text: &[u8]) -> usize {
+    let ends = |part: &[u8]| part.iter().map(|&byte| u8::from(byte == b'\n')).sum::<u8>();
+    text.chunks(255).map(|part| usize::from(ends(part))).sum()
 }
 
 impl Drop for Program {
@@ -224,6 +230,13 @@ pub mod tests {
         let mut answers = Vec::new();
         program.ask(lines.as_bytes(), 3000, &mut answers, Watch::never()).expect("all come");
         assert_eq!(answers, lines.as_bytes());
+    }
+
+    #[test]
+    fn lines_are_counted() {
+        assert_eq!(count_lines(b""), 0);
+        assert_eq!(count_lines(b"D\nE\nS"), 2);
+        assert_eq!(count_lines(&[b'\n'; 1000]), 1000);
     }
 
     #[test]
