@@ -156,7 +156,7 @@ def case_program_killed(lab):
         assert client.refresh(600) == 600 and client.relayed[1] == port
         refused(client.allocate, 437)
         assert relayd.status().totals[-1].endswith("after the first: 3"), relayd.status().text
-        assert "calls has ended (signal: 9" in "\n".join(relayd.written()) or "calls has ended" in "\n".join(relayd.written())
+        assert "\n".join(relayd.written()).count("calls has ended (signal: 9") == 3
 
 
 def case_program_killed_at_work(lab):

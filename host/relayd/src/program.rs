@@ -86,9 +86,9 @@ impl Program {
         &self.stream
     }
 
-    /// Whether it has ended.
-    pub fn is_over(&self) -> bool {
-        is_hung_up(&self.stream)
+    /// How it has ended, if it has.
+    pub fn end(&mut self) -> Option<Trouble> {
+        is_hung_up(&self.stream).then(|| self.ended(&ErrorKind::UnexpectedEof.into()))
     }
 
     /// Puts whole lines, and the answers behind `answers` until `count` have come. Where it fails, what came is there.
@@ -244,8 +244,10 @@ pub mod tests {
         let script = Script::new("ends", "read line; echo D; read line; exit 3");
         let mut program = start(&script.open());
         let mut answers = Vec::new();
+        assert_eq!(program.end(), None);
         let trouble = program.ask(b"one\ntwo\n", 2, &mut answers, Watch::never());
         assert_eq!(trouble, Err(Trouble::Program("has ended (exit status: 3)".to_string())));
+        assert_eq!(program.end(), trouble.err());
         assert_eq!(answers, b"D\n");
     }
 

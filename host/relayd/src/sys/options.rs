@@ -192,7 +192,7 @@ mod tests {
     #[test]
     fn buffers_grow() {
         let (_, to) = pair();
-        let granted = ask_for_buffers(&to, 300_000).expect("an answer");
-        assert!(granted > 0);
+        // So much is granted to everybody where the limit is Linux's own.
+        assert_eq!(ask_for_buffers(&to, 100_000).expect("an answer"), 100_000);
     }
 }
