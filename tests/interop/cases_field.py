@@ -156,11 +156,11 @@ def case_program_killed(lab):
         assert client.refresh(600) == 600 and client.relayed[1] == port
         refused(client.allocate, 437)
         assert relayd.status().totals[-1].endswith("after the first: 3"), relayd.status().text
-        assert "calls has ended (signal: 9" in "\n".join(relayd.written()) or "calls has ended" in "\n".join(relayd.written())
+        assert "\n".join(relayd.written()).count("calls has ended (signal: 9") == 3
 
 
 def case_program_killed_at_work(lab):
-    "the program is killed three times amid data and requests: every request is answered, and nothing is answered twice"
+    "the program is killed amid data and requests, and amid a burst: every request is answered, and every packet comes once, in order"
     with lab.relayd() as relayd:
         client, peer = ready(lab)
         roomy(peer)
@@ -171,8 +171,12 @@ def case_program_killed_at_work(lab):
             client.send(peer.getsockname(), b"%d" % step)
             sent += 1
             client.permit(PEER)
-        came = [int(peer.recv(100)) for _ in range(sent)]
-        assert came == list(range(sent)), came
+        assert [int(peer.recv(100)) for _ in range(sent)] == list(range(sent))
+        for step in range(BURST):
+            if step == BURST // 2:
+                os.kill(relayd.child(), signal.SIGKILL)
+            client.send(peer.getsockname(), b"%d" % step)
+        assert [int(peer.recv(100)) for _ in range(BURST)] == list(range(BURST))
         nothing(peer)
 
 

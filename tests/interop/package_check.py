@@ -81,7 +81,7 @@ def service(user):
         process.send_signal(signal.SIGHUP)
         hears(manager, b"WATCHDOG=1")
         assert "1 of 64 allocations" in (folder / "status").read_text()
-        assert "relayd_allocations 1\n" in (folder / "metrics").read_text()
+        assert "relayd_allocations 1\n" in (folder / "metrics.prom").read_text()
         process.terminate()
         hears(manager, b"STOPPING=1")
         assert process.wait(2) == 0

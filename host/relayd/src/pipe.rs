@@ -111,9 +111,9 @@ impl Pipe {
         self.program.stream()
     }
 
-    /// Whether the program has ended.
-    pub fn is_over(&self) -> bool {
-        self.program.is_over()
+    /// How the program has ended, if it has.
+    pub fn end(&mut self) -> Option<Trouble> {
+        self.program.end()
     }
 
     /// Begins a new batch.

@@ -86,9 +86,9 @@ impl Program {
         &self.stream
     }
 
-    /// Whether it has ended.
-    pub fn is_over(&self) -> bool {
-        is_hung_up(&self.stream)
+    /// How it has ended, if it has.
+    pub fn end(&mut self) -> Option<Trouble> {
+        is_hung_up(&self.stream).then(|| self.ended(&ErrorKind::UnexpectedEof.into()))
     }
 
     /// Puts whole lines, and the answers behind `answers` until `count` have come. Where it fails, what came is there.
@@ -135,7 +135,7 @@ impl Program {
             Ok(length) => {
                 let came = &self.room[..length];
                 answers.extend_from_slice(came);
-                Ok(came.iter().map(|&byte| usize::from(byte == b'\n')).sum())
+                Ok(count_lines(came))
             }
             Err(error) if matches!(error.kind(), ErrorKind::WouldBlock | ErrorKind::Interrupted) => Ok(0),
             Err(error) => Err(self.ended(&error)),
@@ -159,6 +159,12 @@ impl Program {
     pub fn id(&self) -> u32 {
         self.child.id()
     }
+}
+
+/// How many lines end in this text. In parts short enough to be counted in bytes, many of which the compiler adds at once.
+fn count_lines(text: &[u8]) -> usize {
+    let ends = |part: &[u8]| part.iter().map(|&byte| u8::from(byte == b'\n')).sum::<u8>();
+    text.chunks(255).map(|part| usize::from(ends(part))).sum()
 }
 
 impl Drop for Program {
@@ -227,12 +233,21 @@ pub mod tests {
     }
 
     #[test]
+    fn lines_are_counted() {
+        assert_eq!(count_lines(b""), 0);
+        assert_eq!(count_lines(b"D\nE\nS"), 2);
+        assert_eq!(count_lines(&[b'\n'; 1000]), 1000);
+    }
+
+    #[test]
     fn a_program_that_ends_is_told_with_its_status() {
         let script = Script::new("ends", "read line; echo D; read line; exit 3");
         let mut program = start(&script.open());
         let mut answers = Vec::new();
+        assert_eq!(program.end(), None);
         let trouble = program.ask(b"one\ntwo\n", 2, &mut answers, Watch::never());
         assert_eq!(trouble, Err(Trouble::Program("has ended (exit status: 3)".to_string())));
+        assert_eq!(program.end(), trouble.err());
         assert_eq!(answers, b"D\n");
     }
 

@@ -112,9 +112,7 @@ impl Server {
             match token {
                 ENDING => return Err(Stop::Asked),
                 SIGNALS => asked = true,
-                // It may have been noticed and started again since the wait.
-                PROGRAM if !self.parts.relay.is_over() => {}
-                PROGRAM => self.restart("has ended", self.parts.desk.clock.now())?,
+                PROGRAM => self.look_at_program()?,
                 number => self.take(usize::try_from(number).unwrap_or(usize::MAX))?,
             }
         }
@@ -200,6 +198,14 @@ impl Server {
                 Err(Trouble::Ending) => return Err(Stop::Asked),
                 Err(Trouble::Program(why)) => self.restart(&why, now)?,
             }
+        }
+    }
+
+    /// Starts the program again if it has ended. It may have been noticed, and started, since the wait.
+    fn look_at_program(&mut self) -> Result<(), Stop> {
+        match self.parts.relay.end() {
+            Some(Trouble::Program(why)) => self.restart(&why, self.parts.desk.clock.now()),
+            Some(Trouble::Ending) | None => Ok(()),
         }
     }
 

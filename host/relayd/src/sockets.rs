@@ -1,7 +1,7 @@
 //! The sockets: the server's one or two, and one for each relay port.
 
 use crate::ledger::{FIRST_PORT, PORTS, place};
-use crate::sys::options::{ask_for_buffers, dropped, let_in_only};
+use crate::sys::options::{ask_for_buffers, dropped, let_in_all, let_in_only};
 use std::io;
 use std::net::{Ipv4Addr, SocketAddr, SocketAddrV6, UdpSocket};
 
@@ -45,15 +45,16 @@ impl Sockets {
             .collect::<Result<_, _>>()?;
         let places = (FIRST_PORT..FIRST_PORT + PORTS).map(|port| SocketAddr::from((relay, port)));
         let ports: Vec<UdpSocket> = places.map(|address| bind("relay port", address)).collect::<Result<_, _>>()?;
-        for port in &ports {
-            let_in_only(port, &[]).map_err(|error| format!("cannot shut a relay port: {error}"))?;
-        }
-        Ok(Sockets {
+        let sockets = Sockets {
             servers,
             ports,
             listen: listen.to_vec(),
             buffer,
-        })
+        };
+        for port in FIRST_PORT..FIRST_PORT + PORTS {
+            sockets.let_in(port, &[]);
+        }
+        Ok(sockets)
     }
 
     /// All of them, each with the number that `at` and `door` know it by.
@@ -90,8 +91,9 @@ impl Sockets {
 
     /// Lets only these peers' datagrams in at a relay port. Where the kernel does not take the filter, all are let in and the relay drops.
     pub fn let_in(&self, relay_port: u16, peers: &[Ipv4Addr]) {
-        if let Some(socket) = self.ports.get(place(relay_port)) {
-            let _ = let_in_only(socket, peers);
+        let Some(socket) = self.ports.get(place(relay_port)) else { return };
+        if let_in_only(socket, peers).is_err() {
+            let _ = let_in_all(socket);
         }
     }
 
