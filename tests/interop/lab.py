@@ -39,6 +39,17 @@ def wait_for(test, what, seconds=10):
     raise AssertionError(f"{what} did not happen in {seconds} seconds")
 
 
+def make_ready(name):
+    """What a run needs: the programs, and root. A signal ends it in order."""
+    for path in (RELAYD, CALLS):
+        if not os.access(path, os.X_OK):
+            sys.exit(f"{name}: no program {path}")
+    if os.geteuid() != 0:
+        sys.exit(f"{name}: network namespaces need root")
+    for number in (signal.SIGTERM, signal.SIGHUP):
+        signal.signal(number, lambda *_: sys.exit(f"{name}: ended by a signal"))
+
+
 def attempt(case, *about):
     """Runs a case, and says in a line how it went."""
     begin = time.monotonic()
