@@ -225,8 +225,10 @@ mod tests {
     #[test]
     fn a_batch_goes_out_and_comes_in() {
         let bind = |address: &str| UdpSocket::bind(address).expect("a socket");
-        for (one, two) in [("127.0.0.1:0", "127.0.0.1:0"), ("[::1]:0", "[::1]:0")] {
-            let (from, to) = (bind(one), bind(two));
+        // Some machines have no IPv6.
+        let has_ipv6 = UdpSocket::bind("[::1]:0").is_ok();
+        for one in ["127.0.0.1:0", "[::1]:0"].into_iter().take(1 + usize::from(has_ipv6)) {
+            let (from, to) = (bind(one), bind(one));
             let address = to.local_addr().expect("its address");
             let bytes = [b'x'; 2000];
             let messages = [
