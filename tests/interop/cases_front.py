@@ -332,15 +332,21 @@ def case_aioice(lab):
 
 def uclient_case(what, who, *flags):
     def case(lab):
-        with echo(lab), credentials.relayd(lab):
-            name, password = who()
-            uclient(lab, SERVER, PORT, "-u", name, "-w", password, *flags)
+        with echo(lab), credentials.relayd(lab) as relayd:
+            uclient(lab, SERVER, PORT, *who(), *flags)
+            refusals = [line for line in relayd.log() if " error " in line and "no credentials yet" not in line]
+            assert not refusals and "allocation made: user" in "\n".join(relayd.written()), refusals
     case.__doc__ = f"turnutils_uclient, {what}: no packet lost"
     return case
 
 
+def password_flags(name, password):
+    return ["-u", name, "-w", password]
+
+
 CASES = [case_passwords, case_nobody, case_wrong, case_errors_signed, case_against_unsigned, case_terminal, case_another_user, case_stale, case_replay, case_signatures, case_changed,
          case_algorithms, case_slowed, case_reload, case_local_peer, case_told, case_mode, case_aioice,
-         uclient_case("with a password, channels", lambda: ALICE),
-         uclient_case("with a password, Send and Data", lambda: ALICE, "-s"),
-         uclient_case("with a time-limited name", lambda: timed("guest", 60))]
+         uclient_case("with a password, channels", lambda: password_flags(*ALICE)),
+         uclient_case("with a password, Send and Data", lambda: password_flags(*ALICE), "-s"),
+         uclient_case("with a time-limited name", lambda: password_flags(*timed("guest", 60))),
+         uclient_case("which makes its own time-limited name from the secret", lambda: ["-u", "guest", "-W", credentials.SECRET])]
