@@ -57,7 +57,7 @@ fn main() -> ExitCode {
             Ok(())
         }
         Action::Version => {
-            print(&format!("{VERSION}\n"));
+            print(&format!("{VERSION}, {}\n", front::ABOUT));
             Ok(())
         }
         Action::User(words) => front::command(&words).map(|told| print(&told)).map_err(Trouble::Setup),

@@ -18,6 +18,7 @@ if not given. The file is /etc/mudsluice/credentials if not given.
 /// Where the file is if nobody says.
 const FILE: &str = "/etc/mudsluice/credentials";
 const REALM: &str = "mudsluice";
+const SHORT: &str = "The password is short: whoever hears a call can try such ones at his own speed; 12 characters and more are better\n";
 const NEW: &str = "The file is new, and its owner's alone: for a service of another user, chgrp it to that user's group and chmod 640\n";
 
 /// The words after `user`.
@@ -89,8 +90,9 @@ fn add(asked: &Asked, name: &str, ask: impl FnOnce(&str) -> Result<String, Strin
     replace(&asked.file, &(without(&text, name) + &user_line(name, number, &keys) + "\n"))?;
     let what = if known.is_some() { "has a new password" } else { "is added" };
     let new = if is_new { NEW } else { "" };
+    let short = if password.len() < 12 { SHORT } else { "" };
     Ok(format!(
-        "{name} {what}, with number {number}, in realm {}; SIGHUP makes a running relayd read it\n{new}",
+        "{name} {what}, with number {number}, in realm {}; SIGHUP makes a running relayd read it\n{short}{new}",
         credentials.realm
     ))
 }
@@ -278,7 +280,8 @@ mod tests {
         let path = folder.0.join("credentials");
         assert_eq!(fs::metadata(&path).expect("it is there").mode() & 0o777, 0o600);
         fs::set_permissions(&path, fs::Permissions::from_mode(0o640)).expect("a group may read it");
-        folder.user("add bob", "other").expect("a second user");
+        let told = folder.user("add bob", "horse battery staple").expect("a second user");
+        assert!(!told.contains("chmod 640") && !told.contains("short"), "{told}");
         assert_eq!(fs::metadata(&path).expect("it is there").mode() & 0o777, 0o640);
         assert!(Credentials::load(&path).is_ok());
         fs::set_permissions(&path, fs::Permissions::from_mode(0o644)).expect("all may read it");

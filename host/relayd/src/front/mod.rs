@@ -35,6 +35,13 @@ pub use gate::Front;
 pub use signature::Signer;
 pub use verdict::{Cause, Known, Moment, Verdict};
 
+/// For `--version`.
+pub const ABOUT: &str = if cfg!(feature = "front") {
+    "with its front end"
+} else {
+    "without its front end"
+};
+
 #[cfg(test)]
 mod tests {
     /// There are two manifests, with the front end's crates and without; all else in them is the same.
