@@ -2,6 +2,7 @@
 import contextlib
 import os
 import pty
+import random
 import struct
 import time
 
@@ -223,6 +224,32 @@ def case_changed(lab):
         assert relayd.status().allocations == []
 
 
+def spoiled(numbers, request):
+    """The request with some bytes changed, and now and then cut."""
+    raw = bytearray(request)
+    for _ in range(numbers.randrange(1, 6)):
+        raw[numbers.randrange(len(raw))] = numbers.randrange(256)
+    return bytes(raw[:numbers.randrange(len(raw))] if numbers.random() < 0.2 else raw)
+
+
+def case_spoiled(lab):
+    "10,000 spoiled signed requests, from the client's address and from others: nothing is made, memory stays, and who has a password is served"
+    numbers = random.Random(16)
+    with credentials.relayd(lab) as relayd:
+        signers, others = [challenged(lab, *ALICE), challenged(lab, *ALICE, sha256=True)], [lab.client() for _ in range(20)]
+        memory = relayd.memory()
+        for count in range(10000):
+            own = numbers.choice(signers)
+            kind = numbers.choice((turn.ALLOCATE, turn.REFRESH, turn.PERMIT, turn.BIND))
+            strange = turn.attribute(numbers.randrange(65536), bytes(numbers.randrange(60)))
+            with contextlib.suppress(ConnectionRefusedError):
+                numbers.choice((own, numbers.choice(others))).sock.send(spoiled(numbers, own.make(kind, os.urandom(12), [UDP, strange])))
+            if count % 200 == 0:
+                time.sleep(0.002)
+        assert relayd.status().allocations == [] and relayd.memory() - memory < 1024, (memory, relayd.memory())
+        client(lab, *BOB, server=SERVER6).allocate()
+
+
 def case_algorithms(lab):
     "an offer of algorithms cut on the way gets 400"
     with credentials.relayd(lab):
@@ -345,7 +372,7 @@ def password_flags(name, password):
 
 
 CASES = [case_passwords, case_nobody, case_wrong, case_errors_signed, case_against_unsigned, case_terminal, case_another_user, case_stale, case_replay, case_signatures, case_changed,
-         case_algorithms, case_slowed, case_reload, case_local_peer, case_told, case_mode, case_aioice,
+         case_spoiled, case_algorithms, case_slowed, case_reload, case_local_peer, case_told, case_mode, case_aioice,
          uclient_case("with a password, channels", lambda: password_flags(*ALICE)),
          uclient_case("with a password, Send and Data", lambda: password_flags(*ALICE), "-s"),
          uclient_case("with a time-limited name", lambda: password_flags(*timed("guest", 60))),

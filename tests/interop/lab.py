@@ -157,6 +157,11 @@ class Relayd:
         self.process.send_signal(signal.SIGUSR2)
         wait_for(lambda: sum("put forward" in line for line in self.written()) > before, "the clock's step")
 
+    def memory(self):
+        """What relayd itself has in memory, in KiB."""
+        lines = pathlib.Path(f"/proc/{self.process.pid}/status").read_text().splitlines()
+        return next(int(line.split()[1]) for line in lines if line.startswith("VmRSS"))
+
     def child(self):
         children = pathlib.Path(f"/proc/{self.process.pid}/task/{self.process.pid}/children").read_text().split()
         assert len(children) == 1, children
