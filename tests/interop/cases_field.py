@@ -286,6 +286,8 @@ def case_events_by_default(lab):
             client.sock.send(b"\xff")
         carries(client, peer)
         refused(client.allocate, 437)
+        # A reply may be out before its line is.
+        wait_for(lambda: "refused" in log.read_text(), "the refusal's line")
         words = [line.split(" ", 1)[1] for line in log.read_text().splitlines()]
         assert [line.split(":")[0].split(",")[0] for line in words[1:3]] == ["allocation made", "permission made"], words
         assert len(words) == 4 and "refused, 437" in words[3], words
