@@ -2,7 +2,7 @@
 //!
 //!     load turn|bare SERVER PEER COUNT SIZE up|down|PORT MILLISECONDS PACE PID...
 //!
-//! Makes COUNT clients (ports 20000 and up on PEER's address) with a channel each to one peer, and then sends packets of SIZE bytes of
+//! Makes COUNT clients (on PEER's address) with a channel each to one peer, and then sends packets of SIZE bytes of
 //! data through all of them in turn: up is from the clients to the peer, down the other way. PACE is packets a second; 0 is as fast as one
 //! thread can. Prints: packets sent, packets passed on, the median and the 99th percentile of the nanoseconds that one took from its
 //! sender to its receiver (0 without a pace), nanoseconds of CPU of each PID over all its threads. A packet that the relay sent and that
@@ -145,8 +145,10 @@ impl Run {
             relayed: Vec::new(),
             turn,
         };
+        // A 5-tuple that was given back a moment ago loses packets in coturn. The forwarder has room for one set of clients.
+        let first = if turn { 20000 + 64 * (std::process::id() % 400) as u16 } else { 20000 };
         for place in 0..count {
-            let client = UdpSocket::bind((peer.ip(), 20000 + place))?;
+            let client = UdpSocket::bind((peer.ip(), first + place))?;
             client.connect(server)?;
             client.set_read_timeout(Some(Duration::from_secs(1)))?;
             let port = if turn { allocate(&client, peer)? } else { register(&client)? };
