@@ -1,6 +1,8 @@
 # make run: prove and build calls, and show it at work. make test: all checks. make fuzz N=..: calls against the model, with new seeds.
 # make edits: the edits that the gate leaves out. make bench: instructions a line. make interop: real clients through the daemon.
-.PHONY: test run edits fuzz bench fmt relayd relayd-test calls interop
+# make bench-relayd: what a packet costs there. make package: the daemon's Debian package.
+# make browser: a browser through the daemon. make bench-front: what its front end costs.
+.PHONY: test run edits fuzz bench bench-relayd bench-front fmt relayd relayd-test calls interop browser package
 
 CALLS ?= target/bin/calls
 N ?= 100
@@ -36,19 +38,36 @@ fmt:
 
 # The daemon stands outside the proof. Where there is no cargo, its tests are left out.
 relayd-test:
-	@if command -v cargo >/dev/null; then set -e; cd host/relayd; cargo build --offline --quiet; cargo test --offline --quiet; \
-	if cargo clippy --version >/dev/null 2>&1; then cargo clippy --offline --quiet --all-targets -- -D warnings; fi; \
-	else echo "no cargo: host/relayd is not built and its tests are not run"; fi
+	@if command -v cargo >/dev/null; then host/relayd/test; else echo "no cargo: host/relayd is not built and its tests are not run"; fi
 
 relayd:
-	cd host/relayd && cargo build --release --offline --quiet
+	host/relayd/packages
+	host/relayd/cargo build --release
 
 # The proved program, which relayd drives.
 calls: $(CALLS)
 target/bin/calls:
 	rt check calls
 
+# As root.
+bench-relayd: relayd $(CALLS)
+	tests/interop/packages
+	CALLS=$(CALLS) bench/side_by_side.py
+
+package: $(CALLS)
+	CALLS=$(CALLS) packaging/build
+
+# As root.
 interop: relayd $(CALLS)
 	tests/interop/packages
-	cd host/relayd && CALLS=$(abspath $(CALLS)) cargo test --release --offline --quiet -- --ignored
+	CALLS=$(abspath $(CALLS)) host/relayd/cargo test --release -- --ignored
 	CALLS=$(CALLS) tests/interop/run
+
+# The demo's page in headless Chromium, through the daemon: some five minutes, as root.
+browser: relayd $(CALLS)
+	tests/browser/packages
+	CALLS=$(CALLS) tests/browser/run
+
+# What the front end costs a datagram.
+bench-front:
+	host/relayd/cargo test --release -- --ignored --nocapture what_checking_costs

@@ -4,25 +4,17 @@
 //!
 //! A datagram of one byte gives a new client the next of COUNT relay sockets (ports 52000 and up), and answers with its port (two bytes).
 //! A client's other datagrams go to PEER from that socket, and what comes to that socket goes to it from SERVER, unchanged. One thread,
-//! poll, batches of 32: as relayd does it. Only for the bench: it trusts everybody.
+//! epoll, up to 32 datagrams of a socket at a time. Only for the bench: it trusts everybody.
+
+#[allow(dead_code)]
+#[path = "../host/relayd/src/sys/mod.rs"]
+mod sys;
 
 use std::collections::HashMap;
 use std::env;
-use std::ffi::{c_int, c_short, c_ulong};
 use std::io;
 use std::net::{SocketAddr, UdpSocket};
-use std::os::fd::AsRawFd;
-
-#[repr(C)]
-struct PollEntry {
-    fd: c_int,
-    events: c_short,
-    revents: c_short,
-}
-
-unsafe extern "C" {
-    fn poll(entries: *mut PollEntry, count: c_ulong, timeout: c_int) -> c_int;
-}
+use std::time::Duration;
 
 struct Forwarder {
     server: UdpSocket,
@@ -84,22 +76,15 @@ impl Forwarder {
     }
 
     fn run(mut self) -> io::Result<()> {
-        let entry = |socket: &UdpSocket| PollEntry {
-            fd: socket.as_raw_fd(),
-            events: 1,
-            revents: 0,
-        };
-        let mut entries: Vec<PollEntry> = std::iter::once(&self.server).chain(&self.relays).map(entry).collect();
-        let mut buffer = vec![0; 1 << 16];
+        let mut waiting = sys::epoll::Epoll::new()?;
+        for (place, socket) in std::iter::once(&self.server).chain(&self.relays).enumerate() {
+            waiting.add(socket, place as u64)?;
+        }
+        let (mut buffer, mut ready) = (vec![0; 1 << 16], Vec::new());
         loop {
-            // SAFETY: the pointer and the count are those of one live vector of `struct pollfd`.
-            if unsafe { poll(entries.as_mut_ptr(), entries.len() as c_ulong, -1) } < 0 {
-                return Err(io::Error::last_os_error());
-            }
-            for place in 0..entries.len() {
-                if entries[place].revents != 0 {
-                    self.drain(place, &mut buffer)?;
-                }
+            waiting.wait(Duration::from_secs(1), &mut ready)?;
+            for &place in &ready {
+                self.drain(place as usize, &mut buffer)?;
             }
         }
     }

@@ -1,11 +1,17 @@
-//! Load for one relay, and what it cost: CPU time of the relay's processes for each packet that it passed on.
+//! Load for one relay, and what it cost: CPU time of the relay's processes for each packet that it passed on, and how long one took.
 //!
-//!     load turn|bare SERVER PEER COUNT SIZE up|down MILLISECONDS PID...
+//!     load turn|bare SERVER PEER COUNT SIZE up|down|PORT MILLISECONDS PACE PID...
 //!
-//! Makes COUNT clients (ports 20000 and up on PEER's address) with a channel each to one peer, and then sends packets of SIZE bytes of
-//! data through all of them in turn, as fast as one thread can: up is from the clients to the peer, down the other way. Prints: packets
-//! sent, packets passed on, nanoseconds of CPU of each PID over all its threads. A packet that the relay sent and that its receiver had
-//! no room for counts as passed on (/proc/net/udp tells how many those are).
+//! Makes COUNT clients (on PEER's address) with a channel each to one peer, and then sends packets of SIZE bytes of
+//! data through all of them in turn: up is from the clients to the peer, down the other way. PACE is packets a second; 0 is as fast as one
+//! thread can. Prints: packets sent, packets passed on, the median and the 99th percentile of the nanoseconds that one took from its
+//! sender to its receiver (0 without a pace), nanoseconds of CPU of each PID over all its threads. A packet that the relay sent and that
+//! its receiver had no room for counts as passed on (/proc/net/udp tells how many those are). With a PORT in place of a direction, a
+//! stranger (127.0.0.9) sends to the 128 ports from it on, at that pace, and nothing is passed on.
+
+#[allow(dead_code)]
+#[path = "../host/relayd/src/sys/mod.rs"]
+mod sys;
 
 use std::env;
 use std::fs;
@@ -139,8 +145,10 @@ impl Run {
             relayed: Vec::new(),
             turn,
         };
+        // A 5-tuple that was given back a moment ago loses packets in coturn. The forwarder has room for one set of clients.
+        let first = if turn { 20000 + 64 * (std::process::id() % 400) as u16 } else { 20000 };
         for place in 0..count {
-            let client = UdpSocket::bind((peer.ip(), 20000 + place))?;
+            let client = UdpSocket::bind((peer.ip(), first + place))?;
             client.connect(server)?;
             client.set_read_timeout(Some(Duration::from_secs(1)))?;
             let port = if turn { allocate(&client, peer)? } else { register(&client)? };
@@ -150,48 +158,122 @@ impl Run {
         Ok(run)
     }
 
-    /// Sends for so long, and gives the number sent.
-    fn send(&self, up: bool, size: usize, time: Duration) -> Result<u64> {
-        let mut packet = vec![b'x'; size];
-        if up && self.turn {
-            packet = [&CHANNEL[..], &(size as u16).to_be_bytes(), &packet].concat();
+    /// A packet as its sender sends it.
+    fn packet(&self, load: &Load) -> Vec<u8> {
+        let packet = vec![b'x'; load.size];
+        if load.up && self.turn {
+            [&CHANNEL[..], &(load.size as u16).to_be_bytes(), &packet].concat()
+        } else {
+            packet
         }
-        let (mut sent, end) = (0, Instant::now() + time);
-        while Instant::now() < end {
-            for (client, relayed) in self.clients.iter().zip(&self.relayed).cycle().take(64) {
-                let result = if up {
-                    client.send(&packet)
-                } else {
-                    self.peer.send_to(&packet, relayed)
-                };
-                sent += u64::from(result.is_ok());
+    }
+
+    /// Sends a packet through the allocation at this place, over and over.
+    fn send_one(&self, up: bool, place: usize, packet: &[u8]) -> u64 {
+        let place = place % self.clients.len();
+        let result = if up {
+            self.clients[place].send(packet)
+        } else {
+            self.peer.send_to(packet, self.relayed[place])
+        };
+        u64::from(result.is_ok())
+    }
+
+    fn receivers(&self, up: bool) -> Vec<&UdpSocket> {
+        if up { vec![&self.peer] } else { self.clients.iter().collect() }
+    }
+
+    /// Sends as fast as it goes, and gives the number sent and received.
+    fn saturate(&self, load: &Load) -> (u64, u64) {
+        let packet = self.packet(load);
+        let (receivers, count, done) = (self.receivers(load.up), AtomicU64::new(0), AtomicBool::new(false));
+        thread::scope(|scope| {
+            scope.spawn(|| receive(&receivers, &count, &done));
+            let (mut sent, end) = (0, Instant::now() + load.time);
+            while Instant::now() < end {
+                sent += (0..64).map(|place| self.send_one(load.up, place, &packet)).sum::<u64>();
             }
+            settle(&count);
+            done.store(true, Relaxed);
+            (sent, count.load(Relaxed))
+        })
+    }
+
+    /// Sends one packet after the other at the pace, looking for what comes in between without a sleep, and gives the number sent and the
+    /// nanoseconds that each one took which came.
+    fn pace(&self, load: &Load) -> Result<(u64, Vec<u64>)> {
+        let mut packet = self.packet(load);
+        let stamp = packet.len() - load.size;
+        let (receivers, begin) = (self.receivers(load.up), Instant::now());
+        // Behind the head of ChannelData, which what comes down to a TURN client has too.
+        let stamp_in = if !load.up && self.turn { 4 } else { 0 };
+        let (mut waiting, mut ready, mut took, mut buffer) = (sys::epoll::Epoll::new()?, Vec::new(), Vec::new(), [0; 2048]);
+        for (place, socket) in receivers.iter().enumerate() {
+            waiting.add(*socket, place as u64)?;
+        }
+        let mut look = || -> Result<()> {
+            waiting.wait(Duration::ZERO, &mut ready)?;
+            for &place in &ready {
+                while let Ok(length) = receivers[place as usize].recv(&mut buffer) {
+                    let sent = u64::from_be_bytes(buffer[..length].get(stamp_in..stamp_in + 8).ok_or("too short")?.try_into()?);
+                    took.push(nanoseconds(begin).saturating_sub(sent));
+                }
+            }
+            Ok(())
+        };
+        let (mut sent, interval) = (0, 1_000_000_000 / load.pace);
+        let planned = load.time.as_nanos() as u64 / interval;
+        for place in 0..planned {
+            while nanoseconds(begin) < place * interval {
+                look()?;
+            }
+            packet[stamp..stamp + 8].copy_from_slice(&nanoseconds(begin).to_be_bytes());
+            sent += self.send_one(load.up, place as usize, &packet);
+        }
+        let end = Instant::now() + Duration::from_millis(100);
+        while Instant::now() < end {
+            look()?;
+        }
+        Ok((sent, took))
+    }
+
+    /// Sends to 128 ports in turn, at the pace, as one who has no permission.
+    fn flood(&self, load: &Load, first: u16) -> Result<u64> {
+        let (stranger, packet) = (UdpSocket::bind("127.0.0.9:0")?, vec![b'x'; load.size]);
+        let (mut sent, begin, interval) = (0, Instant::now(), 1_000_000_000 / load.pace);
+        for place in 0..load.time.as_nanos() as u64 / interval {
+            while nanoseconds(begin) < place * interval {
+                std::hint::spin_loop();
+            }
+            // A port that nobody has answers with an error, which the next send would give.
+            let _ = stranger.take_error();
+            let to = SocketAddr::new(self.relayed[0].ip(), first + (place % 128) as u16);
+            sent += u64::from(stranger.send_to(&packet, to).is_ok());
         }
         Ok(sent)
     }
 
-    fn measure(&self, up: bool, size: usize, time: Duration, pids: &[String]) -> Result<String> {
-        let receivers: Vec<&UdpSocket> = if up { vec![&self.peer] } else { self.clients.iter().collect() };
+    fn measure(&self, load: &Load, pids: &[String]) -> Result<String> {
+        let receivers = self.receivers(load.up);
         for socket in &receivers {
             socket.set_nonblocking(true)?;
         }
-        let (count, done) = (AtomicU64::new(0), AtomicBool::new(false));
         let cpu_now = || pids.iter().map(|pid| cpu(pid)).collect::<Result<Vec<u64>>>();
         let (before, lost_before) = (cpu_now()?, overflow(&receivers)?);
-        let sent = thread::scope(|scope| {
-            scope.spawn(|| receive(&receivers, &count, &done));
-            let sent = self.send(up, size, time);
-            settle(&count);
-            done.store(true, Relaxed);
-            sent
-        })?;
-        let passed = count.load(Relaxed) + overflow(&receivers)? - lost_before;
-        let spent = cpu_now()?
-            .iter()
-            .zip(before)
-            .map(|(after, before)| (after - before).to_string())
-            .collect::<Vec<_>>();
-        Ok(format!("{sent} {passed} {}", spent.join(" ")))
+        let (sent, came, mut took) = if let Some(first) = load.flood {
+            (self.flood(load, first)?, 0, vec![0])
+        } else if load.pace == 0 {
+            let (sent, came) = self.saturate(load);
+            (sent, came, vec![0])
+        } else {
+            let (sent, took) = self.pace(load)?;
+            (sent, took.len() as u64, took)
+        };
+        let passed = came + overflow(&receivers)? - lost_before;
+        let spent = cpu_now()?.iter().zip(before).map(|(after, before)| (after - before).to_string()).collect::<Vec<_>>();
+        took.sort_unstable();
+        let at = |percent: usize| took.get((took.len() * percent / 100).min(took.len().saturating_sub(1))).copied().unwrap_or(0);
+        Ok(format!("{sent} {passed} {} {} {}", at(50), at(99), spent.join(" ")))
     }
 
     /// Gives the allocations back. An error says that an earlier try has, whose reply was lost.
@@ -202,6 +284,19 @@ impl Run {
         }
         Ok(())
     }
+}
+
+/// What is sent, which way, for how long and at what pace.
+struct Load {
+    flood: Option<u16>,
+    up: bool,
+    size: usize,
+    time: Duration,
+    pace: u64,
+}
+
+fn nanoseconds(since: Instant) -> u64 {
+    since.elapsed().as_nanos() as u64
 }
 
 /// Waits until nothing more comes.
@@ -217,11 +312,18 @@ fn settle(count: &AtomicU64) {
 
 fn main() -> Result<()> {
     let words: Vec<String> = env::args().collect();
-    let [_, kind, server, peer, count, size, direction, time, pids @ ..] = &words[..] else {
-        return Err("load turn|bare SERVER PEER COUNT SIZE up|down MILLISECONDS PID...".into());
+    let [_, kind, server, peer, count, size, direction, time, pace, pids @ ..] = &words[..] else {
+        return Err("load turn|bare SERVER PEER COUNT SIZE up|down MILLISECONDS PACE PID...".into());
     };
     let run = Run::new(kind == "turn", server.parse()?, peer.parse()?, count.parse()?)?;
-    let told = run.measure(direction == "up", size.parse()?, Duration::from_millis(time.parse()?), pids)?;
+    let load = Load {
+        flood: direction.parse().ok(),
+        up: direction == "up",
+        size: size.parse()?,
+        time: Duration::from_millis(time.parse()?),
+        pace: pace.parse()?,
+    };
+    let told = run.measure(&load, pids)?;
     run.end()?;
     println!("{told}");
     Ok(())

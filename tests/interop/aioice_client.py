@@ -1,6 +1,6 @@
 """aioice's TURN client, unmodified: allocate, channel, data both ways, refresh to 0.
 
-    aioice_client.py SERVER PORT PEER PEER-PORT     the peer echoes; prints the relayed address
+    aioice_client.py SERVER PORT PEER PEER-PORT [USER PASSWORD]     the peer echoes; prints the relayed address
 """
 import asyncio
 import os
@@ -20,8 +20,8 @@ class Receiver(asyncio.DatagramProtocol):
         self.closed.set_result(exc)
 
 
-async def main(server, peer):
-    transport, receiver = await turn.create_turn_endpoint(Receiver, server_addr=server, username=None, password=None)
+async def main(server, peer, username=None, password=None):
+    transport, receiver = await turn.create_turn_endpoint(Receiver, server_addr=server, username=username, password=password)
     for size in (1, 3, 100, 1200):
         # Letters, so that tshark takes them for no protocol of their own.
         sent = os.urandom(size).hex()[:size].encode()
@@ -32,4 +32,4 @@ async def main(server, peer):
     print("%s %d" % transport.get_extra_info("sockname"))
 
 
-asyncio.run(main((sys.argv[1], int(sys.argv[2])), (sys.argv[3], int(sys.argv[4]))))
+asyncio.run(main((sys.argv[1], int(sys.argv[2])), (sys.argv[3], int(sys.argv[4])), *sys.argv[5:]))

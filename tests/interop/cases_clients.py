@@ -42,8 +42,8 @@ def coturn(lab):
         yield
 
 
-def aioice(lab, server, port):
-    done = lab.run("client", "/usr/bin/python3", HERE / "aioice_client.py", server, port, PEER, ECHO_PORT)
+def aioice(lab, server, port, *credentials):
+    done = lab.run("client", "/usr/bin/python3", HERE / "aioice_client.py", server, port, PEER, ECHO_PORT, *credentials)
     assert done.returncode == 0, done.stderr
     return done.stdout.split()
 
@@ -70,7 +70,7 @@ def case_aioice(lab):
     with echo(lab), lab.relayd() as relayd:
         host, port = aioice(lab, SERVER, names.PORT)
         assert host == SERVER and int(port) in names.RELAY_PORTS, (host, port)
-        assert relayd.listing() == [], "refresh to 0 left an allocation"
+        assert relayd.status().allocations == [], "refresh to 0 left an allocation"
         log = "\n".join(relayd.log())
         for word in ("Allocate success", "ChannelBind success", "channel 0x4000", "to peer", "Refresh success"):
             assert word in log, word
@@ -80,7 +80,7 @@ def case_aioice_ipv6(lab):
     "aioice from an IPv6 client"
     with echo(lab), lab.relayd() as relayd:
         assert aioice(lab, SERVER6, names.PORT)[0] == SERVER
-        assert relayd.listing() == []
+        assert relayd.status().allocations == []
 
 
 def case_aioice_another_address(lab):
@@ -96,6 +96,7 @@ def uclient_case(server, what, *flags):
             log = "\n".join(relayd.log())
             assert (", Data" in log) == ("-s" in flags) and (", channel" in log) == ("-s" not in flags)
             assert " error " not in log and "refused" not in log and "not sent" not in log, log[:2000]
+            assert relayd.status().drops("could not be sent") == 0
     case.__doc__ = f"turnutils_uclient, {what}: no packet lost"
     return case
 

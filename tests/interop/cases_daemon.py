@@ -1,58 +1,49 @@
-"""The daemon: listing, signals, users, arguments, and what goes wrong."""
+"""The daemon: status, signals, users, arguments, and what goes wrong."""
 import os
+import shutil
 import signal
 
-from cases_relay import ready, refused
-from lab import CLIENT, CLIENT6, HERE, PEER, PORT, SERVER, SERVER6, STRANGER, wait_for
+from cases_relay import ready, refused, second
+from lab import CALLS, CLIENT, CLIENT6, HERE, PEER, PORT, RELAYD, SERVER, SERVER6, STRANGER, wait_for
 
 
-def entry(client, relayd):
-    """The listing's rows of one client: its A row, then its P and C rows, without the slot."""
-    rows, own = relayd.listing(), False
-    found = []
-    for row in rows:
-        if row[0] == "A":
-            own = row[4] == str(client.sock.getsockname()[1])
-        if own:
-            found.append([row[0], *row[2:]])
-    return found
-
-
-def case_listing(lab):
-    "SIGUSR1: the listing has what was accepted, and its expiries follow the clock"
+def case_status(lab):
+    "SIGUSR1: the status has what was accepted, what it carried, and its times follow the clock"
     with lab.relayd("--clock-offset", "200") as relayd:
-        assert relayd.listing() == []
+        assert relayd.status().count == "0 of 64 allocations"
         client, peer = ready(lab)
+        client.send(peer.getsockname(), b"12345")
+        peer.recv(100)
         relayd.forward()
         client.bind(0x4001, (STRANGER, 5000))
         refused(lambda: client.bind(0x4001, peer.getsockname()), 400)
-        user = str(1 + client.sock.getsockname()[1] % 32)
-        allocation, permission, second, channel = entry(client, relayd)
-        assert allocation[:3] == ["A", user, "c6336407"] and allocation[6] == str(client.relayed[1]), allocation
-        assert permission[:2] == ["P", "c0000296"] and second[:2] == ["P", "c0000297"], (permission, second)
-        assert channel[:4] == ["C", str(0x4001), "c0000297", "5000"], channel
-        made, bound = int(allocation[7]) - 600, int(channel[4]) - 600
-        assert 200 <= bound - made < 210 and int(permission[2]) - 300 - made < 10 and int(second[2]) == bound + 300
+        status = relayd.status()
+        own = status.of(client)
+        assert status.count == "1 of 64 allocations" and own.user == 1 + client.sock.getsockname()[1] % 32
+        assert own.relay_port == client.relayed[1] and own.carried == {"peers": (1, 5), "the client": (0, 0)}, status.text
+        assert set(own.permissions) == {PEER, STRANGER} and own.channels[0x4001][0] == f"{STRANGER}:5000", status.text
+        made, bound = own.expiry - 600, own.channels[0x4001][1] - 600
+        assert 200 <= bound - made < 210 and own.permissions[PEER] - 300 - made < 10 and own.permissions[STRANGER] == bound + 300
         relayd.forward()
-        assert [row[0] for row in entry(client, relayd)] == ["A", "P", "C"], "the first permission has lapsed"
+        own = relayd.status().of(client)
+        assert set(own.permissions) == {STRANGER} and len(own.channels) == 1, "the first permission has lapsed"
         client.refresh(0)
-        assert relayd.listing() == []
+        assert relayd.status().allocations == []
 
 
 def last(relayd, client, word):
     """When the relay last accepted this of the client, by the log."""
     mark = f"client {CLIENT}:{client.sock.getsockname()[1]} "
-    return int([line for line in relayd.log() if mark in line and f"{word} success" in line][-1].split()[0])
+    return second([line for line in relayd.log() if mark in line and f"{word} success" in line][-1])
 
 
-def case_long_journal(lab):
-    "the listing after 12,000 accepted requests, over a journal made short on the way, has every expiry right"
+def case_long_history(lab):
+    "after 12,000 accepted requests, and again after the program was killed, the status has every time right, and so has the relay"
     with lab.relayd("--clock-offset", "100") as relayd:
         gone = lab.client()
         gone.allocate()
-        few, many = ready(lab)[0], ready(lab)[0]
+        few, (many, peer) = ready(lab)[0], ready(lab)
         gone.refresh(0)
-        assert [row[1] for row in relayd.listing() if row[0] == "A"] == ["1", "2"]
         bound, once = [], None
         for step in range(4):
             many.bind(0x4000 + step, (PEER, 6000 + step))
@@ -63,15 +54,22 @@ def case_long_journal(lab):
             for _ in range(3000):
                 many.permit(PEER, "192.0.2.9")
             relayd.forward()
-        # The journal was made short after some 8,000: the slot that was freed is not in it.
-        rows = relayd.listing()
-        assert [row[1] for row in rows if row[0] == "A"] == ["0", "1"], rows
         made = last(relayd, many, "CreatePermission") + 300
-        permissions = {"c0000296": made, "c0000209": made, "c0000297": once + 300}
-        assert {row[2]: int(row[3]) for row in rows if row[0] == "P"} == permissions, rows
-        assert [int(row[5]) for row in rows if row[0] == "C"] == [time + 600 for time in bound], rows
-        ends = {str(client.relayed[1]): last(relayd, client, "Allocate") + 600 for client in (few, many)}
-        assert {row[7]: int(row[8]) for row in rows if row[0] == "A"} == ends, rows
+        ends = [last(relayd, client, "Allocate") + 600 for client in (few, many)]
+        for _ in range(2):
+            status = relayd.status()
+            assert [status.of(client).expiry for client in (few, many)] == ends, status.text
+            assert status.of(many).permissions == {PEER: made, "192.0.2.9": made, STRANGER: once + 300}, status.text
+            assert [until for _, until in status.of(many).channels.values()] == [time + 600 for time in bound], status.text
+            os.kill(relayd.child(), signal.SIGKILL)
+            wait_for(lambda: "it runs again, with 2 allocations" in "\n".join(relayd.written()), "the restart")
+        # The new program's own table: a channel of old carries, and what has lapsed by now does not.
+        peer6 = lab.udp("peer", PEER, 6003)
+        many.channel(0x4003, b"by the channel of old")
+        assert peer6.recvfrom(100) == (b"by the channel of old", many.relayed)
+        for _ in range(2):
+            relayd.forward()
+        refused(lambda: few.refresh(600), 437)
 
 
 def case_hello(lab):
@@ -82,37 +80,55 @@ def case_hello(lab):
 
 
 def case_kill_signals(lab):
-    "SIGTERM, SIGINT and SIGHUP end it with status 0, its program with it, and free the ports"
-    for number in (signal.SIGTERM, signal.SIGINT, signal.SIGHUP):
+    "SIGTERM and SIGINT end it with status 0, its program with it, and free the ports; SIGHUP does not end it"
+    for number in (signal.SIGTERM, signal.SIGINT):
         with lab.relayd() as relayd:
             child = relayd.child()
+            relayd.process.send_signal(signal.SIGHUP)
+            wait_for(lambda: "no users' file" in "\n".join(relayd.written()), "what SIGHUP does")
             relayd.process.send_signal(number)
-            assert relayd.process.wait(5) == 0
+            assert relayd.process.wait(1) == 0
             assert not os.path.exists(f"/proc/{child}")
 
 
-def case_program_ends(lab):
-    "if the program behind the pipe ends, relayd says so and ends with status 1, idle or not"
-    with lab.relayd(status=1) as relayd:
-        os.kill(relayd.child(), signal.SIGKILL)
-        assert relayd.process.wait(5) == 1
-        said = (relayd.folder / "errors").read_text()
-        assert "calls has ended (signal: 9" in said, said
-
-
 def case_users(lab):
-    "--user: a file of addresses; those not in it get 401, and so does everybody with --user 0"
+    "--user: a file of addresses, prefixes and names; those not in it get 401, and so does everybody with --user 0"
     site = lab.folder / "users"
-    site.write_text(f"# the workshop\n{CLIENT} 7\n")
+    site.write_text(f"# the workshop\n198.51.100.0/24 3 hall\n{CLIENT} 7 the camera # on the mast\n")
     with lab.relayd(user=str(site)) as relayd:
-        lab.client().allocate()
+        client = lab.client()
+        client.allocate()
         refused(lab.client(SERVER6).allocate, 401)
-        site.write_text(f"{CLIENT6} 7\n")
-        refused(lab.client(SERVER6).allocate, 401)
-        assert [row[2] for row in relayd.listing()] == ["7"]
-        assert any("Allocate error 401 Unauthorized" in line for line in relayd.log())
+        own = relayd.status().of(client)
+        assert (own.user, own.name) == (7, "the camera")
+        assert any("allocation made: user 7 (the camera), client" in line for line in relayd.log())
+        assert any("nobody, refused, 401 Unauthorized: no user has this address" in line for line in relayd.log())
     with lab.relayd(user="0"):
         refused(lab.client().allocate, 401)
+
+
+def case_reload(lab):
+    "SIGHUP reads the users' file again, keeps the old one if the new one is bad, opens the log anew, and ends no allocation"
+    site = lab.folder / "users"
+    site.write_text(f"{CLIENT} 7\n")
+    with lab.relayd(user=str(site)) as relayd:
+        client = lab.client()
+        client.allocate()
+        moved = relayd.folder / "log.1"
+
+        def hang_up(word):
+            (relayd.folder / "log").rename(moved)
+            relayd.process.send_signal(signal.SIGHUP)
+            wait_for(lambda: (relayd.folder / "log").exists() and word in (relayd.folder / "log").read_text(), word)
+        site.write_text(f"{CLIENT6} 8\n::ffff:{CLIENT} 7\n")
+        hang_up("the users stay as they were")
+        assert "line 2" in "\n".join(relayd.written()) and "allocation made" in moved.read_text()
+        lab.client().allocate()
+        site.write_text(f"{CLIENT6} 8\n")
+        hang_up("was read again")
+        refused(lab.client().allocate, 401)
+        lab.client(SERVER6).allocate()
+        assert len(relayd.status().allocations) == 3
 
 
 def case_taken_port(lab):
@@ -125,15 +141,18 @@ def case_taken_port(lab):
 
 
 def case_bad_arguments(lab):
-    "bad arguments and unreadable files: a clear message and status 2"
+    "bad arguments, and files that can't be read or written: a clear message and status 2"
     bad = lab.folder / "bad-users"
     bad.write_text("198.51.100.7\n")
-    for options, word in ((["--relay", "::1"], "--relay"), (["--frob"], "--frob"), (["--log", "/no/such/folder/log"], "/no/such/folder/log"),
-                          (["--listen"], "needs a value")):
+    nowhere = "/no/such/folder/file"
+    for options, word in ((["--relay", "::1"], "--relay"), (["--frob"], "--frob"), (["--log", nowhere], nowhere), (["--listen"], "needs a value"),
+                          (["--status", nowhere], nowhere), (["--metrics", nowhere], nowhere), (["--clock-offset=+5"], "+5")):
         done = lab.run("relay", *lab.relayd_command(*options), timeout=10)
         assert done.returncode == 2 and word in done.stderr, done
-    for user, word in (("33", "33"), ("/no/such/users", "/no/such/users"), (str(bad), "line 1")):
+    for user, word in (("33", "33"), ("/no/such/users", "/no/such/users"), (str(bad), "line 1"), ("+3", "+3")):
         done = lab.run("relay", *lab.relayd_command(user=user), timeout=10)
+        assert done.returncode == 2 and word in done.stderr, done
+        done = lab.run("relay", *lab.relayd_command("--check", user=user), timeout=10)
         assert done.returncode == 2 and word in done.stderr, done
     for program in ("/no/such/calls", "/bin/cat", "/bin/true"):
         command = lab.relayd_command()
@@ -142,4 +161,32 @@ def case_bad_arguments(lab):
         assert done.returncode == 2 and program in done.stderr, done
 
 
-CASES = [case_listing, case_long_journal, case_hello, case_kill_signals, case_program_ends, case_users, case_taken_port, case_bad_arguments]
+def case_check_and_version(lab):
+    "--check looks at options and users and binds nothing; --version; --listen=ADDRESS:PORT"
+    with lab.relayd():
+        done = lab.run("relay", RELAYD, "--check", f"--listen={SERVER}:{PORT}", "--user=3", timeout=10)
+        assert done.returncode == 0 and "good" in done.stdout, done
+    done = lab.run("relay", RELAYD, "--version", timeout=10)
+    assert done.returncode == 0 and done.stdout.startswith("relayd 0."), done
+
+
+def case_where_calls_is(lab):
+    "calls is looked for beside relayd, and never in the current directory"
+    here, beside = lab.folder / "here", lab.folder / "beside"
+    (here / "target/bin").mkdir(parents=True)
+    shutil.copy(CALLS, here / "target/bin/calls")
+    done = lab.run("relay", RELAYD, cwd=here, timeout=10)
+    assert done.returncode == 2 and "no calls beside relayd" in done.stderr, done
+    beside.mkdir()
+    shutil.copy(RELAYD, beside / "relayd")
+    shutil.copy(CALLS, beside / "calls")
+    process = lab.start("relay", beside / "relayd", stderr=-1, text=True)
+    try:
+        assert "listening on 127.0.0.1:3478" in process.stderr.readline()
+    finally:
+        process.terminate()
+        assert process.wait(5) == 0
+
+
+CASES = [case_status, case_long_history, case_hello, case_kill_signals, case_users, case_reload, case_taken_port, case_bad_arguments,
+         case_check_and_version, case_where_calls_is]

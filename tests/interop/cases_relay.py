@@ -1,5 +1,6 @@
 """The relay's edges on real sockets, by the small client in turn.py."""
 import random
+import re
 import socket
 import time
 
@@ -26,6 +27,11 @@ def nothing(sock_or_client, seconds=0.3):
         except socket.timeout:
             got = None
     assert got is None, got
+
+
+def second(line):
+    """The relay's second of a line of the log, which has it where there is --clock-offset."""
+    return int(re.search(r"\[(\d+)\]", line)[1])
 
 
 def ready(lab, server=SERVER):
@@ -87,7 +93,8 @@ def case_empty_datagram(lab):
         nothing(client)
         client.send(peer.getsockname(), b"still there")
         assert peer.recv(65536) == b"still there"
-        assert sum(line.endswith("dropped") for line in relayd.log()) == 6
+        status = relayd.status()
+        assert status.drops("neither STUN nor ChannelData") == 2 and status.drops("from clients") == 4, status.text
 
 
 def spoiled(chance):
@@ -104,7 +111,7 @@ def spoiled(chance):
 
 
 def case_noise(lab):
-    "3,000 spoiled datagrams at the server and the relay ports: relayd goes on, and every one has its line in the log"
+    "3,000 spoiled datagrams at the server and the relay ports: relayd goes on, and every one is in the log or counted"
     chance = random.Random(8656)
     with lab.relayd() as relayd:
         client, peer = ready(lab)
@@ -116,17 +123,18 @@ def case_noise(lab):
                 client.refresh(600)
         client.send(peer.getsockname(), b"still there")
         assert peer.recv(65536) == b"still there"
-        ports = [str(noise.sock.getsockname()[1]) for noise in noisy]
-        words = [(line, line.split()) for line in relayd.log()]
-        assert sum(word[1] == "peer" for _, word in words) == 1500
-        from_noisy = [line for line, word in words if word[1] == "client" and word[2].rsplit(":", 1)[1] in ports]
+        ports = [f":{noise.sock.getsockname()[1]} " for noise in noisy]
+        log, at_ports = relayd.log(), relayd.status().drops("at the relay ports")
+        # All but one relay port drop all that comes, and that one takes data of any form.
+        assert sum(" peer " in line and " bytes: to client " in line for line in log) + at_ports == 1500, at_ports
+        from_noisy = [line for line in log if " client " in line and any(port in line.split(" bytes: ")[0] + " " for port in ports)]
         assert len(from_noisy) == 1500, len(from_noisy)
         for kind in ("dropped", "Allocate success", "error 400", "error 420", "error 437"):
             assert any(kind in line for line in from_noisy), kind
 
 
 def case_1500_bytes(lab):
-    "1,500-byte datagrams pass whole; 1,501 and up to 65,507 are refused with 4, never cut"
+    "1,500-byte datagrams pass whole; 1,501 and up to 65,507 are dropped, never cut"
     with lab.relayd() as relayd:
         client, peer = ready(lab)
         client.send(peer.getsockname(), b"s" * (1500 - 36))
@@ -139,11 +147,12 @@ def case_1500_bytes(lab):
         peer.sendto(b"p" * 1500, client.relayed)
         assert client.receive() == ("channel", 0x4000, b"p" * 1500)
         for size in (1501, 1585, 1600, 9000, 65507):
-            refusals = lambda: sum(f" {size} bytes: refused 4" in line for line in relayd.written())
+            drops = lambda: sum(f" {size} bytes: dropped before the relay, over 1,500 bytes" in line for line in relayd.written())
             client.sock.send(b"\x40\0" + (size - 4).to_bytes(2, "big") + bytes(size - 4))
-            wait_for(lambda: refusals() == 1, f"the refusal of a client's {size} bytes")
+            wait_for(lambda: drops() == 1, f"the drop of a client's {size} bytes")
             peer.sendto(bytes(size), client.relayed)
-            wait_for(lambda: refusals() == 2, f"the refusal of a peer's {size} bytes")
+            wait_for(lambda: drops() == 2, f"the drop of a peer's {size} bytes")
+        assert relayd.status().drops("over 1,500 bytes") == 10
         nothing(peer)
         nothing(client)
 
@@ -159,13 +168,14 @@ def case_vanished_client(lab):
             peer.sendto(b"anyone?", gone)
         other.send(other_peer.getsockname(), b"not me")
         assert other_peer.recv(65536) == b"not me"
-        assert len([row for row in relayd.listing() if row[0] == "A"]) == 2
+        assert len(relayd.status().allocations) == 2
         other.refresh(3600)
         relayd.forward()
-        rows = [row for row in relayd.listing() if row[0] == "A"]
-        assert [int(row[7]) for row in rows] == [other.relayed[1]], rows
+        status = relayd.status()
+        assert [one.relay_port for one in status.allocations] == [other.relayed[1]], status.text
+        dropped = status.drops("at the relay ports")
         peer.sendto(b"anyone?", gone)
-        wait_for(lambda: f"at {gone[1]} 7 bytes: dropped" in "\n".join(relayd.written()), "the drop")
+        wait_for(lambda: relayd.status().drops("at the relay ports") == dropped + 1, "the drop")
 
 
 def case_64_allocations(lab):
@@ -194,7 +204,10 @@ def case_64_allocations(lab):
             peer.sendto(b"to %d" % place, client.relayed)
         for place, client in enumerate(clients):
             assert client.receive() == ("channel", 0x4000 + place, b"to %d" % place)
-        assert len(relayd.listing()) == 64 * 3
+        status = relayd.status()
+        assert status.count == "64 of 64 allocations" and len(status.allocations) == 64
+        assert all(len(one.permissions) == len(one.channels) == 1 for one in status.allocations), status.text
+        assert all(one.carried["peers"][0] == one.carried["the client"][0] == 1 for one in status.allocations), status.text
 
 
 def case_ports_at_random(lab):
@@ -217,8 +230,8 @@ def case_port_scan(lab):
             client.permit(PEER)
         for port in RELAY_PORTS:
             stranger.sendto(b"scan", (SERVER, port))
-        wait_for(lambda: sum(f"peer {STRANGER}" in line for line in relayd.written()) == 128, "the scan's end")
-        assert all(line.endswith("dropped") for line in relayd.log() if f"peer {STRANGER}" in line)
+        wait_for(lambda: relayd.status().drops("at the relay ports") == 128, "the scan's end")
+        assert not any(f"peer {STRANGER}" in line for line in relayd.log()), "the scan woke relayd"
         for client in clients:
             nothing(client, 0.05)
         # The same scan by the permitted peer does come through, so the silence means something.
@@ -232,20 +245,18 @@ def case_permission_lapses(lab):
     "a permission carries for 300 seconds and not a second longer, by the relay's own clock"
     with lab.relayd("--clock-offset", "297") as relayd:
         client, peer = ready(lab)
-        made = int(next(line for line in relayd.log() if "CreatePermission success" in line).split()[0])
+        made = second(next(line for line in relayd.log() if "CreatePermission success" in line))
         relayd.forward()
         came = 0
         for _ in range(26):
             peer.sendto(b"tick", client.relayed)
             came += client.receive(0.05) is not None
             time.sleep(0.2)
-        wait_for(lambda: sum("peer " in line for line in relayd.written()) == 26, "all 26 outcomes")
-        times = [(int(line.split()[0]) - made, "to client" in line) for line in relayd.log() if "peer " in line]
-        assert times[0][0] < 300 <= times[-1][0], times
-        assert all(passed == (age < 300) for age, passed in times), times
-        assert came == sum(passed for _, passed in times)
-        refusal = [row for row in relayd.listing() if row[0] == "P"]
-        assert refusal == [], refusal
+        ages = [second(line) - made for line in relayd.log() if " peer " in line and " to client " in line]
+        dropped = relayd.status().drops("at the relay ports") + relayd.status().drops("from peers")
+        assert came == len(ages) and came + dropped == 26, (came, ages, dropped)
+        assert came > 1 and dropped > 1 and max(ages) < 300, (ages, dropped)
+        assert relayd.status().of(client).permissions == {}
 
 
 def case_allocation_lapses(lab):
@@ -261,7 +272,7 @@ def case_allocation_lapses(lab):
         assert kept.refresh(600) == 600
         refused(lambda: lapsed.refresh(600), 437)
         lapsed.allocate()
-        assert len(relayd.listing()) == 2
+        assert len(relayd.status().allocations) == 2
 
 
 CASES = [case_send_and_data, case_two_clients, case_zero_length, case_empty_datagram, case_noise, case_1500_bytes, case_vanished_client, case_64_allocations,

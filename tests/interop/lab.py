@@ -3,12 +3,15 @@ import contextlib
 import ctypes
 import os
 import pathlib
+import re
 import shutil
 import signal
 import socket
 import subprocess
+import sys
 import tempfile
 import time
+import traceback
 
 import turn
 
@@ -36,8 +39,90 @@ def wait_for(test, what, seconds=10):
     raise AssertionError(f"{what} did not happen in {seconds} seconds")
 
 
+def make_ready(name):
+    """What a run needs: the programs, and root. A signal ends it in order."""
+    for path in (RELAYD, CALLS):
+        if not os.access(path, os.X_OK):
+            sys.exit(f"{name}: no program {path}")
+    if os.geteuid() != 0:
+        sys.exit(f"{name}: network namespaces need root")
+    for number in (signal.SIGTERM, signal.SIGHUP):
+        signal.signal(number, lambda *_: sys.exit(f"{name}: ended by a signal"))
+
+
+def attempt(case, *about):
+    """Runs a case, and says in a line how it went."""
+    begin = time.monotonic()
+    try:
+        note = case(*about)
+    except Exception:
+        traceback.print_exc(file=sys.stdout)
+        print(f"FAIL  {case.__doc__}", flush=True)
+        return False
+    print(f"ok    {case.__doc__}" + (f": {note}" if note else "") + f" ({time.monotonic() - begin:.1f} s)", flush=True)
+    return True
+
+
 def ip(*words):
     subprocess.run(["ip", *words], check=True, capture_output=True)
+
+
+def seconds(minutes):
+    """Of a time like 9:41."""
+    minutes, rest = minutes.split(":")
+    return 60 * int(minutes) + int(rest)
+
+
+class Allocation:
+    """An allocation of the status. Times are of the relay's clock, where the status has it."""
+
+    def __init__(self, line, now):
+        found = re.fullmatch(r"user (\d+)(?: \((.*)\))?, client (\S+):(\d+), relay port (\d+), (\S+) left", line)
+        user, self.name, host, port, relay_port, left = found.groups()
+        self.user, self.client, self.relay_port = int(user), (host.strip("[]"), int(port)), int(relay_port)
+        self.expiry, self.now = now + seconds(left), now
+        self.permissions, self.channels, self.carried = {}, {}, {}
+
+    def add(self, line):
+        """A line below the first."""
+        if found := re.fullmatch(r"  permission for (\S+), (\S+) left", line):
+            self.permissions[found[1]] = self.now + seconds(found[2])
+        elif found := re.fullmatch(r"  channel (0x4[0-9a-f]{3}) to (\S+), (\S+) left", line):
+            self.channels[int(found[1], 16)] = (found[2], self.now + seconds(found[3]))
+        else:
+            way, packets, sent = re.fullmatch(r"  to (.+): (\d+) packets, (\d+) bytes", line).groups()
+            self.carried[way] = (int(packets), int(sent))
+
+
+class Status:
+    """What `--status` says."""
+
+    def __init__(self, text):
+        head, *parts, ends, drops, refusals = text.split("\n\n")
+        self.text, self.count = text, head.splitlines()[2]
+        clock = re.search(r"\[(\d+)\]", head)
+        now = int(clock[1]) if clock else 0
+        self.allocations = []
+        for part in parts:
+            first, *rest = part.splitlines()
+            self.allocations.append(Allocation(first, now))
+            for line in rest:
+                self.allocations[-1].add(line)
+        self.totals = ends.splitlines()[1:]
+        self.dropped = {what: int(count) for count, what in (line.split(maxsplit=1) for line in drops.splitlines()[1:])}
+        self.refusals = [line.strip() for line in refusals.splitlines()[1:]]
+
+    def of(self, client):
+        """The allocation of one client."""
+        found = [one for one in self.allocations if one.client == client.sock.getsockname()[:2]]
+        assert len(found) == 1, self.text
+        return found[0]
+
+    def drops(self, word):
+        """The count of the one cause with this word."""
+        found = [count for what, count in self.dropped.items() if word in what]
+        assert len(found) == 1, self.dropped
+        return found[0]
 
 
 class Relayd:
@@ -52,21 +137,30 @@ class Relayd:
 
     def log(self):
         """The log with the lines of all replies that have come: relayd writes them out before it looks at the next signal."""
-        self.listing()
+        self.status()
         return self.written()
 
-    def listing(self):
+    def events(self):
+        """The log without the lines of single datagrams."""
+        return [line for line in self.log() if not re.search(r"(client|peer) \S+ (at \d+ )?\d+ bytes:", line)]
+
+    def status(self):
         status = self.folder / "status"
         status.unlink(missing_ok=True)
         self.process.send_signal(signal.SIGUSR1)
-        wait_for(status.exists, "a listing")
-        return [line.split("\t") for line in status.read_text().splitlines()]
+        wait_for(status.exists, "a status")
+        return Status(status.read_text())
 
     def forward(self):
         """One SIGUSR2: the clock goes forward by --clock-offset."""
         before = sum("put forward" in line for line in self.written())
         self.process.send_signal(signal.SIGUSR2)
         wait_for(lambda: sum("put forward" in line for line in self.written()) > before, "the clock's step")
+
+    def memory(self):
+        """What relayd itself has in memory, in KiB."""
+        lines = pathlib.Path(f"/proc/{self.process.pid}/status").read_text().splitlines()
+        return next(int(line.split()[1]) for line in lines if line.startswith("VmRSS"))
 
     def child(self):
         children = pathlib.Path(f"/proc/{self.process.pid}/task/{self.process.pid}/children").read_text().split()
@@ -147,19 +241,20 @@ class Lab:
         with self.inside("client"):
             return turn.Client((server, PORT), local)
 
-    def relayd_command(self, *options, listen=(f"{SERVER}:{PORT}", f"[{SERVER6}]:{PORT}"), user="by-port"):
-        words = [RELAYD, "--calls", CALLS, "--user", user]
+    def relayd_command(self, *options, listen=(f"{SERVER}:{PORT}", f"[{SERVER6}]:{PORT}"), user="by-port", calls=("--calls", CALLS)):
+        words = [RELAYD, *calls, *(["--user", user] if user else [])]
         for address in listen:
             words += ["--listen", address]
         return words + list(options)
 
     @contextlib.contextmanager
-    def relayd(self, *options, status=0, **setup):
+    def relayd(self, *options, status=0, status_file=None, **setup):
         """A fresh relayd on the relay host. It must end with this status, and if that is 0, without a word of trouble."""
         self.started += 1
         folder = self.folder / str(self.started)
         folder.mkdir()
-        command = self.relayd_command("--log", folder / "log", "--status", folder / "status", *options, **setup)
+        reports = ["--status", folder / "status"] if status_file is None else status_file
+        command = self.relayd_command("--log", folder / "log", "--log-packets", *reports, *options, **setup)
         with open(folder / "errors", "w+", encoding="utf-8") as errors:
             process = self.start("relay", *command, stdout=subprocess.DEVNULL, stderr=errors)
             try:

@@ -10,11 +10,11 @@ TRANSPORT, MAPPED = 0x0019, 0x0020
 
 
 class TurnError(Exception):
-    """An error response; its code is `code`."""
+    """An error response; its code is `code`, and `found` has its attributes."""
 
-    def __init__(self, code):
+    def __init__(self, code, found):
         super().__init__(f"error {code}")
-        self.code = code
+        self.code, self.found = code, found
 
 
 def attribute(kind, value):
@@ -62,10 +62,19 @@ class Client:
         self.sock.connect(server)
         self.waiting = []
 
+    def make(self, kind, transaction, attributes):
+        """A request as it is sent."""
+        return message(kind, transaction, attributes)
+
     def request(self, kind, *attributes):
         """Sends a request and gives the attributes of its success; data that comes in between is kept."""
         transaction = os.urandom(12)
-        self.sock.send(message(kind, transaction, attributes))
+        return self.ask(self.make(kind, transaction, attributes))
+
+    def ask(self, request):
+        """Sends these bytes, which are a request, and gives the attributes of its success."""
+        kind, transaction = struct.unpack("!H", request[:2])[0], request[8:20]
+        self.sock.send(request)
         self.sock.settimeout(5)
         while True:
             raw = self.sock.recv(65536)
@@ -74,11 +83,11 @@ class Client:
                 if same == transaction:
                     break
             self.waiting.append(raw)
+        self.transaction, self.answer = transaction, raw
         assert answer in (kind | 0x0100, kind | 0x0110), hex(answer)
         if answer == kind | 0x0110:
             code = found[ERROR_CODE]
-            raise TurnError(code[2] * 100 + code[3])
-        self.transaction = transaction
+            raise TurnError(code[2] * 100 + code[3], found)
         return found
 
     def allocate(self, lifetime=None):

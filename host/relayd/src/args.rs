@@ -7,21 +7,31 @@ use std::path::{Path, PathBuf};
 pub const HELP: &str = "\
 relayd: the proved TURN relay on UDP sockets
 
-    relayd [OPTION VALUE]...
+    relayd [OPTION]...                an option's value may stand behind it or behind a =
+    relayd user add|remove|list ...   who may use it, by password; relayd user says how
 
   --listen ADDRESS:PORT   the server's address, 127.0.0.1:3478 if not given; may be given twice, for IPv4 and IPv6
   --relay ADDRESS         the IPv4 address of the 128 relay ports 49152 to 49279; the IPv4 server's if not given
-  --user WHO              a number from 0 to 32 for all clients (0: nobody, who gets 401); or by-port, for tests;
-                          or a file with lines of address and number (others are nobody).
+  --credentials FILE      clients sign their requests: names, numbers and keys, made by relayd user; not with --user
+  --user WHO              without passwords: a number from 0 to 32 for all clients (0: nobody, who gets 401); or by-port, for tests;
+                          or a file with lines of address or prefix, number and name (others are nobody).
                           1 if not given and all listens are on loopback, else it must be given
-  --log FILE              one line for each outcome, with why where the relay says so; - is standard error
-  --status FILE           where SIGUSR1 writes the listing; standard output if not given
-  --calls PATH            the proved program; target/bin/calls or one beside relayd if not given
+  --allow-local-peers     lets clients have peers on this host's loopback and on link-local addresses, as they may
+                          where the relay's own address is on loopback
+  --log FILE              allocations, permissions and channels, and refusals with why; - is standard error
+  --log-packets           each datagram and what became of it, too
+  --status FILE           what is live, for people: written every 5 seconds and on SIGUSR1; without it, SIGUSR1
+                          writes to standard output
+  --metrics FILE          the same for Prometheus
+  --calls PATH            the proved program; calls beside relayd if not given
   --clock-offset SECONDS  for tests: each SIGUSR2 puts the clock this far forward
+  --check                 looks at the options and the users' file, and ends
+  --version               the version
   --help                  this text
 
-SIGUSR1 writes the listing. SIGTERM, SIGINT and SIGHUP end relayd with status 0. It ends with status 2 on bad
-arguments or unreadable files, and with 1 if a socket can't be bound or the relay fails.
+SIGHUP reads the credentials or the users' file again and opens the log's file anew. SIGUSR1 writes the status. SIGTERM and SIGINT end
+relayd with status 0. It ends with status 2 on bad arguments or files that can't be read or written, and with 1 if a
+socket can't be bound or the relay fails.
 ";
 
 /// What the command line asks for.
@@ -29,6 +39,12 @@ arguments or unreadable files, and with 1 if a socket can't be bound or the rela
 pub enum Action {
     /// Print the help.
     Help,
+    /// Print the version.
+    Version,
+    /// Work on the credentials, by the words after `user`.
+    User(Vec<String>),
+    /// Look at the options and the users' file.
+    Check(Config),
     /// Run with these.
     Run(Config),
 }
@@ -40,16 +56,24 @@ pub struct Config {
     pub listen: Vec<SocketAddr>,
     /// The address of the relay ports.
     pub relay: Ipv4Addr,
-    /// `--user`'s word.
+    /// `--user`'s word; 0 where there are credentials.
     pub user: String,
+    /// Who may use it, by password.
+    pub credentials: Option<PathBuf>,
+    /// Whether peers on this host and its links are allowed.
+    pub allow_local_peers: bool,
     /// Where the log goes.
     pub log: Option<PathBuf>,
-    /// Where the listing goes.
+    /// Whether it has every datagram.
+    pub log_packets: bool,
+    /// Where the status goes.
     pub status: Option<PathBuf>,
+    /// Where the metrics go.
+    pub metrics: Option<PathBuf>,
     /// The proved program, if named.
     pub calls: Option<PathBuf>,
-    /// What SIGUSR2 adds to the clock.
-    pub clock_offset: u64,
+    /// What SIGUSR2 adds to the clock, if it may.
+    pub clock_offset: Option<u64>,
 }
 
 /// The options as they stand on the line.
@@ -58,32 +82,73 @@ struct Given {
     listen: Vec<SocketAddr>,
     relay: Option<Ipv4Addr>,
     user: Option<String>,
+    credentials: Option<PathBuf>,
     log: Option<PathBuf>,
     status: Option<PathBuf>,
+    metrics: Option<PathBuf>,
     calls: Option<PathBuf>,
     clock_offset: Option<u64>,
+    flags: Vec<&'static str>,
 }
 
 /// Reads the arguments after the program's name.
 pub fn parse(arguments: impl IntoIterator<Item = String>) -> Result<Action, String> {
     let mut given = Given::default();
-    let mut arguments = arguments.into_iter();
-    while let Some(name) = arguments.next() {
-        if name == "--help" || name == "-h" {
-            return Ok(Action::Help);
+    let mut arguments = arguments.into_iter().peekable();
+    if arguments.next_if(|first| first == "user").is_some() {
+        return Ok(Action::User(arguments.collect()));
+    }
+    while let Some(argument) = arguments.next() {
+        let (name, value) = match argument.split_once('=') {
+            Some((name, value)) => (name.to_string(), Some(value.to_string())),
+            None => (argument, None),
+        };
+        match name.as_str() {
+            "--help" | "-h" => return Ok(Action::Help),
+            "--version" => return Ok(Action::Version),
+            _ => {}
         }
-        if !KNOWN.contains(&name.as_str()) {
+        if let Some(flag) = FLAGS.into_iter().find(|flag| *flag == name) {
+            given.flag(flag, value.as_deref())?;
+            continue;
+        }
+        if !WITH_VALUE.contains(&name.as_str()) {
             return Err(format!("unknown argument '{name}'"));
         }
-        let value = arguments.next().ok_or_else(|| format!("{name} needs a value"))?;
-        given.take(&name, value)?;
+        let value = value.or_else(|| arguments.next());
+        given.take(&name, value.ok_or_else(|| format!("{name} needs a value"))?)?;
     }
-    given.complete().map(Action::Run)
+    let check = given.has("--check");
+    let config = given.complete()?;
+    Ok(if check { Action::Check(config) } else { Action::Run(config) })
 }
 
-const KNOWN: [&str; 7] = ["--listen", "--relay", "--user", "--log", "--status", "--calls", "--clock-offset"];
+const FLAGS: [&str; 3] = ["--allow-local-peers", "--log-packets", "--check"];
+const WITH_VALUE: [&str; 9] = [
+    "--listen",
+    "--relay",
+    "--user",
+    "--credentials",
+    "--log",
+    "--status",
+    "--metrics",
+    "--calls",
+    "--clock-offset",
+];
 
 impl Given {
+    fn flag(&mut self, flag: &'static str, value: Option<&str>) -> Result<(), String> {
+        if value.is_some() {
+            return Err(format!("{flag} takes no value"));
+        }
+        self.flags.push(flag);
+        Ok(())
+    }
+
+    fn has(&self, flag: &str) -> bool {
+        self.flags.contains(&flag)
+    }
+
     fn take(&mut self, name: &str, value: String) -> Result<(), String> {
         match name {
             "--listen" => {
@@ -96,13 +161,12 @@ impl Given {
             }
             "--relay" => once(name, &mut self.relay, relay_address(&value)?),
             "--user" => once(name, &mut self.user, value),
+            "--credentials" => once(name, &mut self.credentials, value.into()),
             "--log" => once(name, &mut self.log, value.into()),
             "--status" => once(name, &mut self.status, value.into()),
+            "--metrics" => once(name, &mut self.metrics, value.into()),
             "--calls" => once(name, &mut self.calls, value.into()),
-            _ => {
-                let seconds = value.parse().map_err(|_| format!("{name} '{value}' is not a number of seconds"))?;
-                once(name, &mut self.clock_offset, seconds)
-            }
+            _ => once(name, &mut self.clock_offset, seconds(name, &value)?),
         }
     }
 
@@ -116,18 +180,38 @@ impl Given {
         });
         let relay = self.relay.or(first_ipv4).ok_or("--relay is needed where no --listen is IPv4")?;
         let loopback = self.listen.iter().all(|address| address.ip().is_loopback());
-        let default = if loopback { Some("1".to_string()) } else { None };
-        let open = "--user is needed where --listen isn't on loopback: who may use the relay?";
+        if self.credentials.is_some() && self.user.is_some() {
+            return Err("--credentials and --user are two ways to know a user: give one".to_string());
+        }
+        let default = match self.credentials {
+            Some(_) => Some("0".to_string()),
+            None => loopback.then(|| "1".to_string()),
+        };
+        let open = "--credentials or --user is needed where --listen isn't on loopback: who may use the relay?";
+        let (allow_local_peers, log_packets) = (self.has("--allow-local-peers"), self.has("--log-packets"));
+        if log_packets && self.log.is_none() {
+            return Err("--log-packets needs --log".to_string());
+        }
         Ok(Config {
             listen: self.listen,
             relay,
             user: self.user.or(default).ok_or(open)?,
+            credentials: self.credentials,
+            allow_local_peers,
             log: self.log,
+            log_packets,
             status: self.status,
+            metrics: self.metrics,
             calls: self.calls,
-            clock_offset: self.clock_offset.unwrap_or(0),
+            clock_offset: self.clock_offset,
         })
     }
+}
+
+fn seconds(name: &str, value: &str) -> Result<u64, String> {
+    let digits = value.bytes().all(|byte| byte.is_ascii_digit());
+    let number = value.parse().ok().filter(|_| digits);
+    number.ok_or_else(|| format!("{name} '{value}' is not a number of seconds"))
 }
 
 fn once<T>(name: &str, place: &mut Option<T>, value: T) -> Result<(), String> {
@@ -155,17 +239,15 @@ fn relay_address(value: &str) -> Result<Ipv4Addr, String> {
     }
 }
 
-/// The proved program: the one named, else under the current directory's `target/bin`, else beside relayd.
+/// The proved program: the one named, else the one beside relayd.
 pub fn find_calls(named: Option<&Path>, relayd: Option<&Path>) -> Result<PathBuf, String> {
     if let Some(path) = named {
         return Ok(path.to_path_buf());
     }
-    let built = PathBuf::from("target/bin/calls");
     let beside = relayd.and_then(Path::parent).map(|folder| folder.join("calls"));
-    let mut places = std::iter::once(built).chain(beside);
-    places
-        .find(|path| path.is_file())
-        .ok_or_else(|| "no target/bin/calls here and none beside relayd; name it with --calls".to_string())
+    beside
+        .filter(|path| path.is_file())
+        .ok_or_else(|| "there is no calls beside relayd; name it with --calls".to_string())
 }
 
 #[cfg(test)]
@@ -175,7 +257,7 @@ mod tests {
     fn run(line: &str) -> Result<Config, String> {
         match parse(line.split_whitespace().map(String::from))? {
             Action::Run(config) => Ok(config),
-            Action::Help => Err("help".to_string()),
+            other => Err(format!("{other:?}")),
         }
     }
 
@@ -190,10 +272,9 @@ mod tests {
         assert_eq!(config.listen, ["127.0.0.1:3478".parse().expect("an address")]);
         assert_eq!(config.relay, Ipv4Addr::LOCALHOST);
         assert_eq!(config.user, "1");
-        assert_eq!(
-            (config.log, config.status, config.calls, config.clock_offset),
-            (None, None, None, 0)
-        );
+        assert_eq!((config.log, config.status, config.calls), (None, None, None));
+        assert_eq!((config.metrics, config.clock_offset), (None, None));
+        assert!(!config.allow_local_peers && !config.log_packets);
     }
 
     #[test]
@@ -207,9 +288,26 @@ mod tests {
     #[test]
     fn help_wins() {
         assert_eq!(parse(["--help".to_string(), "--nonsense".to_string()]), Ok(Action::Help));
-        for name in KNOWN {
+        for name in WITH_VALUE.iter().chain(&FLAGS) {
             assert!(HELP.contains(name), "{name}");
         }
+        assert_eq!(parse(["--version".to_string()]), Ok(Action::Version));
+    }
+
+    #[test]
+    fn a_value_may_stand_behind_an_equals_sign() {
+        let config = run("--listen=192.0.2.1:3478 --user=by-port --log=a=b").expect("good options");
+        assert_eq!(config.listen, ["192.0.2.1:3478".parse().expect("an address")]);
+        assert_eq!(config.log, Some("a=b".into()));
+        refused("--listen= --user 1", "ADDRESS:PORT");
+        refused("--log-packets=yes", "takes no value");
+    }
+
+    #[test]
+    fn check_has_all_that_a_run_has() {
+        let words = ["--check", "--listen=192.0.2.1:3478"].map(String::from);
+        assert!(parse(words).expect_err("no --user").contains("--user"));
+        assert!(matches!(parse(["--check".to_string()]), Ok(Action::Check(_))));
     }
 
     #[test]
@@ -226,7 +324,18 @@ mod tests {
         refused("--relay ::1", "IPv4");
         refused("--relay 0.0.0.0", "one IPv4 address");
         refused("--user 1 --user 2", "twice");
+        refused("--user 1 --credentials x", "give one");
         refused("--clock-offset -5", "seconds");
+        refused("--clock-offset +5", "seconds");
+        refused("--log-packets", "needs --log");
+    }
+
+    #[test]
+    fn credentials_stand_in_the_place_of_a_user() {
+        let config = run("--listen 192.0.2.1:3478 --credentials x").expect("no --user");
+        assert_eq!((config.user.as_str(), config.credentials), ("0", Some("x".into())));
+        let words = ["user", "add", "--help"].map(String::from);
+        assert_eq!(parse(words.clone()), Ok(Action::User(words[1..].to_vec())));
     }
 
     #[test]
@@ -235,5 +344,7 @@ mod tests {
         assert_eq!(named, Ok(PathBuf::from("/x/calls")));
         let error = find_calls(None, Some(Path::new("/no/such/relayd"))).expect_err("none there");
         assert!(error.contains("--calls"));
+        // Never in the current directory, wherever that is.
+        assert!(find_calls(None, None).is_err());
     }
 }

@@ -1,6 +1,5 @@
 //! The lines of the proved program `calls`: written for a call, read for an answer.
 
-use std::io::Write;
 use std::net::{IpAddr, SocketAddr};
 
 /// An answer as it stands: `bytes` of it are in the buffer that `read` filled.
@@ -18,84 +17,101 @@ pub enum Answer {
     ToPeer(u16, SocketAddr),
 }
 
-const DIGITS: &[u8; 16] = b"0123456789abcdef";
-const NONE: u8 = 16;
-
-/// The value of each character as a digit; `NONE` for those that are none.
-const VALUES: [u8; 256] = {
-    let mut values = [NONE; 256];
-    let mut value = 0;
-    while value < 16 {
-        values[DIGITS[value as usize] as usize] = value;
-        value += 1;
-    }
-    values
-};
+/// The two digits of two halves of a byte, each in its half of a word. Without a branch or a table, so that the compiler can make many
+/// words at once: every relayed byte goes through here.
+fn digits(halves: u16) -> u16 {
+    // 1 for each half that is over 9: the letters stand 39 places behind where digits would.
+    let letters = (halves + 0x0606) >> 4 & 0x0101;
+    halves + 0x3030 + letters * 39
+}
 
 /// Appends bytes as lower case hex digits.
 pub fn put_hex(line: &mut Vec<u8>, bytes: &[u8]) {
     let begin = line.len();
     line.resize(begin + 2 * bytes.len(), 0);
-    let (pairs, _) = line[begin..].as_chunks_mut();
-    for (pair, byte) in pairs.iter_mut().zip(bytes) {
-        *pair = [DIGITS[usize::from(byte >> 4)], DIGITS[usize::from(byte & 15)]];
+    for (pair, byte) in line[begin..].chunks_exact_mut(2).zip(bytes) {
+        let halves = u16::from(byte >> 4) | u16::from(byte & 15) << 8;
+        pair.copy_from_slice(&digits(halves).to_le_bytes());
     }
 }
 
-fn put_address(line: &mut Vec<u8>, address: IpAddr) {
-    match address {
+/// Appends a number and a tab.
+fn put_number(line: &mut Vec<u8>, mut number: u64) {
+    let mut digits = [b'\t'; 21];
+    let mut begin = 20;
+    loop {
+        begin -= 1;
+        digits[begin] = b'0' + (number % 10) as u8;
+        number /= 10;
+        if number == 0 {
+            return line.extend_from_slice(&digits[begin..]);
+        }
+    }
+}
+
+/// Appends an address and a port, with their tabs.
+fn put_place(line: &mut Vec<u8>, place: SocketAddr) {
+    match place.ip() {
         IpAddr::V4(ip) => put_hex(line, &ip.octets()),
         IpAddr::V6(ip) => put_hex(line, &ip.octets()),
     }
+    line.push(b'\t');
+    put_number(line, place.port().into());
 }
 
-/// The line of a client's datagram.
-pub fn client(line: &mut Vec<u8>, now: u64, user: u32, start: u32, from: SocketAddr, datagram: &[u8]) {
-    line.clear();
-    // Writing to a vector never fails.
-    let _ = write!(line, "Q\t{now}\t{user}\t{start}\t");
-    put_address(line, from.ip());
-    let _ = write!(line, "\t{}\t", from.port());
-    put_hex(line, datagram);
-    line.push(b'\n');
+/// Appends the line of a client's datagram.
+pub fn client(lines: &mut Vec<u8>, now: u64, user: u32, start: u32, from: SocketAddr, datagram: &[u8]) {
+    lines.extend_from_slice(b"Q\t");
+    put_number(lines, now);
+    put_number(lines, user.into());
+    put_number(lines, start.into());
+    put_place(lines, from);
+    put_hex(lines, datagram);
+    lines.push(b'\n');
 }
 
-/// The line of a peer's datagram.
-pub fn peer(line: &mut Vec<u8>, now: u64, from: SocketAddr, relay_port: u16, datagram: &[u8]) {
-    line.clear();
-    let _ = write!(line, "P\t{now}\t");
-    put_address(line, from.ip());
-    let _ = write!(line, "\t{}\t{relay_port}\t", from.port());
-    put_hex(line, datagram);
-    line.push(b'\n');
+/// Appends the line of a peer's datagram.
+pub fn peer(lines: &mut Vec<u8>, now: u64, from: SocketAddr, relay_port: u16, datagram: &[u8]) {
+    lines.extend_from_slice(b"P\t");
+    put_number(lines, now);
+    put_place(lines, from);
+    put_number(lines, relay_port.into());
+    put_hex(lines, datagram);
+    lines.push(b'\n');
 }
 
-/// Reads an answer without its newline, and its bytes into `bytes`. None where it is of no form.
+/// Reads an answer without its newline, and puts its bytes behind `bytes`. None where it is of no form.
 pub fn read(line: &[u8], bytes: &mut Vec<u8>) -> Option<Answer> {
-    let fields: Vec<&[u8]> = line.split(|&byte| byte == b'\t').collect();
-    match fields[..] {
-        [b"D"] => Some(Answer::Dropped),
-        [b"E"] => Some(Answer::NotTaken),
-        [b"R", number] => decimal(number).map(Answer::Refused),
-        [b"S", address, port, hex] => {
-            read_hex(hex, bytes)?;
-            Some(Answer::ToClient(place(address, port)?))
-        }
-        [b"F", relay_port, address, port, hex] => {
-            read_hex(hex, bytes)?;
-            Some(Answer::ToPeer(decimal(relay_port)?, place(address, port)?))
-        }
-        _ => None,
-    }
+    let (kind, mut rest) = match line {
+        b"D" => return Some(Answer::Dropped),
+        b"E" => return Some(Answer::NotTaken),
+        [kind, b'\t', rest @ ..] => (*kind, rest),
+        _ => return None,
+    };
+    // The last field is all that is left: a tab in it is no digit.
+    let mut field = || {
+        let end = rest.iter().position(|&byte| byte == b'\t')?;
+        let field = &rest[..end];
+        rest = &rest[end + 1..];
+        Some(field)
+    };
+    let answer = match kind {
+        b'R' => return decimal(rest).map(Answer::Refused),
+        b'S' => Answer::ToClient(place(field()?, field()?)?),
+        b'F' => Answer::ToPeer(decimal(field()?)?, place(field()?, field()?)?),
+        _ => return None,
+    };
+    read_hex(rest, bytes)?;
+    Some(answer)
 }
 
 /// A decimal number that fits its type.
-pub fn decimal<T: std::str::FromStr>(text: &[u8]) -> Option<T> {
+fn decimal<T: std::str::FromStr>(text: &[u8]) -> Option<T> {
     std::str::from_utf8(text).ok()?.parse().ok()
 }
 
 /// An address and a port.
-pub fn place(address: &[u8], port: &[u8]) -> Option<SocketAddr> {
+fn place(address: &[u8], port: &[u8]) -> Option<SocketAddr> {
     let mut bytes = Vec::with_capacity(16);
     read_hex(address, &mut bytes)?;
     let ip = match <[u8; 4]>::try_from(&bytes[..]) {
@@ -105,17 +121,20 @@ pub fn place(address: &[u8], port: &[u8]) -> Option<SocketAddr> {
     Some(SocketAddr::new(ip, decimal(port)?))
 }
 
-/// Reads hex digits, two a byte, into `bytes`.
+/// Reads hex digits, two a byte, behind `bytes`.
 pub fn read_hex(text: &[u8], bytes: &mut Vec<u8>) -> Option<()> {
-    let (pairs, rest) = text.as_chunks();
-    bytes.resize(pairs.len(), 0);
-    let mut seen = 0;
-    for (byte, [high, low]) in bytes.iter_mut().zip(pairs) {
-        let (high, low) = (VALUES[usize::from(*high)], VALUES[usize::from(*low)]);
-        seen |= high | low;
-        *byte = high << 4 | low & 15;
+    let begin = bytes.len();
+    bytes.resize(begin + text.len() / 2, 0);
+    let mut wrong = 0;
+    for (byte, pair) in bytes[begin..].iter_mut().zip(text.chunks_exact(2)) {
+        let word = u16::from_le_bytes([pair[0], pair[1]]);
+        let halves = (word & 0x0f0f) + (word >> 6 & 0x0101) * 9;
+        // A character is a digit if it is the one that its value is written with.
+        wrong |= halves & 0xf0f0 | (digits(halves) ^ word);
+        let [low, _] = (halves << 4 | halves >> 8).to_le_bytes();
+        *byte = low;
     }
-    (seen < NONE && rest.is_empty()).then_some(())
+    (wrong == 0 && text.len() % 2 == 0).then_some(())
 }
 
 #[cfg(test)]
@@ -131,8 +150,10 @@ mod tests {
         let mut line = Vec::new();
         client(&mut line, 1000, 3, 5, at("198.51.100.7:40000"), &[0, 3, 0xff]);
         assert_eq!(line, b"Q\t1000\t3\t5\tc6336407\t40000\t0003ff\n");
+        line.clear();
         peer(&mut line, 1309, at("192.0.2.150:5000"), 49157, b"hi");
         assert_eq!(line, b"P\t1309\tc0000296\t5000\t49157\t6869\n");
+        line.clear();
         client(&mut line, 0, 0, u32::MAX, at("[fd00::1]:1"), b"");
         assert_eq!(line, b"Q\t0\t0\t4294967295\tfd000000000000000000000000000001\t1\t\n");
     }
@@ -145,10 +166,33 @@ mod tests {
         assert_eq!(read(b"R\t4", &mut bytes), Some(Answer::Refused(4)));
         let to_client = read(b"S\tfd000000000000000000000000000001\t40000\t01fe", &mut bytes);
         assert_eq!(to_client, Some(Answer::ToClient(at("[fd00::1]:40000"))));
-        assert_eq!(bytes, [1, 0xfe]);
+        assert_eq!(bytes, [9, 1, 0xfe]);
         let to_peer = read(b"F\t49157\tc0000296\t5000\t", &mut bytes);
         assert_eq!(to_peer, Some(Answer::ToPeer(49157, at("192.0.2.150:5000"))));
-        assert!(bytes.is_empty());
+        assert_eq!(bytes.len(), 3);
+    }
+
+    #[test]
+    fn every_byte_is_written_and_read() {
+        let bytes: Vec<u8> = (0..=255).collect();
+        let mut text = Vec::new();
+        put_hex(&mut text, &bytes);
+        for (byte, pair) in bytes.iter().zip(text.chunks(2)) {
+            assert_eq!(pair, format!("{byte:02x}").as_bytes());
+        }
+        let mut back = Vec::new();
+        read_hex(&text, &mut back).expect("hex");
+        assert_eq!(back, bytes);
+    }
+
+    #[test]
+    fn no_other_character_is_a_digit() {
+        for character in 0..=255u8 {
+            let is_digit = matches!(character, b'0'..=b'9' | b'a'..=b'f');
+            for pair in [[character, b'0'], [b'f', character]] {
+                assert_eq!(read_hex(&pair, &mut Vec::new()).is_some(), is_digit, "{character}");
+            }
+        }
     }
 
     #[test]
@@ -159,6 +203,10 @@ mod tests {
             b"X",
             b"D\t",
             b"R\t256",
+            b"R\t1\t",
+            b"S\tc0000296\t1\t00\t00",
+            b"S\tc0000296\t1",
+            b"F\t49157\tc0000296\t5000",
             b"S\tc00002\t1\t00",
             b"S\tc0000296\t65536\t00",
             b"S\tc0000296\t1\t0",

@@ -1,10 +1,29 @@
-//! The log: one line for each outcome, with why where the relay says so.
+//! The log: events with the time of day; with `--log-packets`, each datagram too.
 
+use crate::clock::Clock;
+use crate::counters::Cause;
+use crate::output::{Output, to_standard_error};
 use crate::relay::Outcome;
-use std::fs::File;
-use std::io::{self, BufWriter, Write};
+use crate::stun;
 use std::net::SocketAddr;
-use std::path::Path;
+use std::path::{Path, PathBuf};
+
+/// Tells whoever started relayd.
+pub fn say(message: &str) {
+    to_standard_error(&format!("relayd: {message}\n"));
+}
+
+enum Target {
+    None,
+    StandardError,
+    File(PathBuf, Output),
+}
+
+/// The log, if there is one.
+pub struct Log {
+    target: Target,
+    packets: bool,
+}
 
 /// Where a datagram came in.
 #[derive(Clone, Copy)]
@@ -15,65 +34,94 @@ pub enum Arrival {
     Peer(SocketAddr, u16),
 }
 
-/// Tells whoever started relayd. A closed standard error is no reason to end.
-pub fn say(message: &str) {
-    let _ = writeln!(io::stderr(), "relayd: {message}");
-}
-
-/// The log, if there is one.
-pub struct Log(Option<Box<dyn Write>>);
-
 impl Log {
     /// Adds to a file, or writes to standard error for `-`.
-    pub fn open(path: Option<&Path>) -> Result<Self, String> {
-        let Some(path) = path else { return Ok(Log(None)) };
-        if path == Path::new("-") {
-            return Ok(Log(Some(Box::new(io::stderr()))));
-        }
-        let file = File::options().create(true).append(true).open(path);
-        let file = file.map_err(|error| format!("cannot write the log {}: {error}", path.display()))?;
-        Ok(Log(Some(Box::new(BufWriter::new(file)))))
+    pub fn open(path: Option<&Path>, packets: bool) -> Result<Self, String> {
+        let target = match path {
+            None => Target::None,
+            Some(path) if path == Path::new("-") => Target::StandardError,
+            Some(path) => Target::File(path.to_path_buf(), append(path)?),
+        };
+        Ok(Log { target, packets })
     }
 
-    /// One outcome, and what became of sending it.
-    pub fn outcome(&mut self, now: u64, arrival: Arrival, length: usize, outcome: &Outcome, sent: &io::Result<()>) {
-        let Some(out) = &mut self.0 else { return };
-        let mut text = format!("{now} {} {length} bytes: {}", arrived(arrival), told(outcome));
-        if let Err(error) = sent {
-            text = format!("{text}; not sent: {error}");
+    /// Opens a file anew, after somebody has moved it away. Where that fails, the old one goes on.
+    pub fn reopen(&mut self) -> Result<(), String> {
+        if let Target::File(path, output) = &mut self.target {
+            output.flush();
+            *output = append(path)?;
         }
-        let _ = writeln!(out, "{text}");
+        Ok(())
     }
 
-    /// A socket's own trouble, or a note.
-    pub fn note(&mut self, now: u64, what: &str) {
-        if let Some(out) = &mut self.0 {
-            let _ = writeln!(out, "{now} {what}");
+    /// An event.
+    pub fn event(&mut self, clock: &Clock, what: &str) {
+        if let Target::None = self.target {
+            return;
         }
+        let line = format!("{} {what}\n", clock.stamp());
+        match &mut self.target {
+            Target::None => {}
+            Target::StandardError => to_standard_error(&line),
+            Target::File(_, output) => output.put(&line),
+        }
+    }
+
+    /// An event that somebody has to know of: without a log it goes to standard error.
+    pub fn alert(&mut self, clock: &Clock, what: &str) {
+        match self.target {
+            Target::None => say(what),
+            _ => self.event(clock, what),
+        }
+    }
+
+    /// Whether it goes where `say` does.
+    pub fn is_standard_error(&self) -> bool {
+        matches!(self.target, Target::StandardError)
+    }
+
+    /// Whether each datagram is to be told.
+    pub fn has_packets(&self) -> bool {
+        self.packets && !matches!(self.target, Target::None)
+    }
+
+    /// A datagram, and what became of it.
+    pub fn packet(&mut self, clock: &Clock, arrival: Arrival, length: usize, fate: &str) {
+        let from = match arrival {
+            Arrival::Client(from) => format!("client {from}"),
+            Arrival::Peer(from, port) => format!("peer {from} at {port}"),
+        };
+        self.event(clock, &format!("{from} {length} bytes: {fate}"));
     }
 
     /// Writes out what is held back; called before each wait.
     pub fn flush(&mut self) {
-        if let Some(out) = &mut self.0 {
-            let _ = out.flush();
+        match &mut self.target {
+            Target::None => {}
+            Target::StandardError => to_standard_error(""),
+            Target::File(_, output) => output.flush(),
         }
     }
 }
 
-fn arrived(arrival: Arrival) -> String {
-    match arrival {
-        Arrival::Client(from) => format!("client {from}"),
-        Arrival::Peer(from, port) => format!("peer {from} at {port}"),
-    }
+fn append(path: &Path) -> Result<Output, String> {
+    Output::append(path).map_err(|error| format!("cannot write the log {}: {error}", path.display()))
 }
 
-fn told(outcome: &Outcome) -> String {
+/// What became of a datagram that the relay saw.
+pub fn fate(outcome: &Outcome) -> String {
     match outcome {
         Outcome::Refused(number) => format!("refused {number}, {}", refusal(*number)),
         Outcome::Dropped => "dropped".to_string(),
+        Outcome::Lost => "lost with the relay's program".to_string(),
         Outcome::ToClient { to, bytes } => format!("to client {to} {} bytes, {}", bytes.len(), message(bytes)),
         Outcome::ToPeer { relay_port, to, bytes } => format!("to peer {to} from {relay_port} {} bytes", bytes.len()),
     }
+}
+
+/// What became of a datagram that the relay did not see.
+pub fn fate_before(cause: Cause) -> String {
+    format!("dropped before the relay, {}", cause.text())
 }
 
 /// Document 01's refusals.
@@ -90,43 +138,19 @@ fn refusal(number: u8) -> &'static str {
     }
 }
 
-/// What a reply is, from its first bytes; an error's code is always in its first attribute.
-fn message(bytes: &[u8]) -> String {
-    match bytes {
-        [0x40..=0x4f, ..] => format!("channel {:#06x}", u16::from_be_bytes([bytes[0], bytes[1]])),
-        [0x00, 0x17, ..] => "Data".to_string(),
-        [0x01, kind, ..] if kind & 0x10 == 0 => format!("{} success", method(*kind)),
-        [0x01, kind, ..] if bytes.len() >= 28 => {
-            let code = u16::from(bytes[26]) * 100 + u16::from(bytes[27]);
-            format!("{} error {code} {}", method(kind & 0x0f), phrase(code))
+/// What a reply is.
+pub fn message(bytes: &[u8]) -> String {
+    if let [first @ 0x40..=0x4f, second, ..] = bytes {
+        return format!("channel {:#06x}", u16::from_be_bytes([*first, *second]));
+    }
+    match stun::response(bytes) {
+        Some((method, true)) => format!("{} success", stun::method_name(method)),
+        Some((method, false)) => {
+            let code = stun::error_code(bytes).unwrap_or(0);
+            format!("{} error {code} {}", stun::method_name(method), stun::phrase(code))
         }
-        _ => "unknown".to_string(),
-    }
-}
-
-fn method(number: u8) -> &'static str {
-    match number {
-        3 => "Allocate",
-        4 => "Refresh",
-        8 => "CreatePermission",
-        9 => "ChannelBind",
-        _ => "unknown",
-    }
-}
-
-fn phrase(code: u16) -> &'static str {
-    match code {
-        400 => "Bad Request",
-        401 => "Unauthorized",
-        420 => "Unknown Attribute",
-        437 => "Allocation Mismatch",
-        440 => "Address Family not Supported",
-        441 => "Wrong Credentials",
-        442 => "Unsupported Transport Protocol",
-        443 => "Peer Address Family Mismatch",
-        486 => "Allocation Quota Reached",
-        508 => "Insufficient Capacity",
-        _ => "unknown",
+        None if stun::is_data(bytes) => "Data".to_string(),
+        None => "unknown".to_string(),
     }
 }
 
@@ -137,25 +161,37 @@ mod tests {
     #[test]
     fn outcomes_are_told_with_why() {
         let to = SocketAddr::from(([192, 0, 2, 1], 5));
-        assert_eq!(told(&Outcome::Refused(4)), "refused 4, datagram over 1,500 bytes");
-        assert_eq!(told(&Outcome::Dropped), "dropped");
-        let mut reply = vec![0; 28];
-        reply[..2].copy_from_slice(&[0x01, 0x13]);
-        reply[26..].copy_from_slice(&[4, 86]);
-        let error = told(&Outcome::ToClient { to, bytes: &reply });
+        assert_eq!(fate(&Outcome::Refused(4)), "refused 4, datagram over 1,500 bytes");
+        assert_eq!(fate(&Outcome::Dropped), "dropped");
+        let reply = stun::error_response(&stun::request(stun::ALLOCATE, &[]), 486);
+        let error = fate(&Outcome::ToClient { to, bytes: &reply });
         assert_eq!(error, "to client 192.0.2.1:5 28 bytes, Allocate error 486 Allocation Quota Reached");
         let bytes: &[u8] = &[0x40, 0x01, 0, 0];
-        assert_eq!(
-            told(&Outcome::ToClient { to, bytes }),
-            "to client 192.0.2.1:5 4 bytes, channel 0x4001"
-        );
-        assert_eq!(message(&[0x01, 0x09, 0, 0]), "ChannelBind success");
-        assert_eq!(message(&[0x00, 0x17]), "Data");
+        let channel = fate(&Outcome::ToClient { to, bytes });
+        assert_eq!(channel, "to client 192.0.2.1:5 4 bytes, channel 0x4001");
+        assert_eq!(message(&stun::request(0x0109, &[])), "ChannelBind success");
+        assert_eq!(message(&stun::request(0x0017, &[])), "Data");
         assert_eq!(message(&[]), "unknown");
         let relay_port = 49152;
-        assert_eq!(
-            told(&Outcome::ToPeer { relay_port, to, bytes }),
-            "to peer 192.0.2.1:5 from 49152 4 bytes"
-        );
+        let to_peer = fate(&Outcome::ToPeer { relay_port, to, bytes });
+        assert_eq!(to_peer, "to peer 192.0.2.1:5 from 49152 4 bytes");
+    }
+
+    #[test]
+    fn the_file_is_opened_anew() {
+        let path = std::env::temp_dir().join(format!("relayd-test-{}-log", std::process::id()));
+        let moved = path.with_extension("1");
+        let clock = Clock::new(false);
+        let mut log = Log::open(Some(&path), false).expect("it opens");
+        log.event(&clock, "before");
+        std::fs::rename(&path, &moved).expect("it is moved");
+        log.reopen().expect("it opens again");
+        log.event(&clock, "after");
+        log.flush();
+        for (path, word) in [(moved, "Z before\n"), (path, "Z after\n")] {
+            let text = std::fs::read_to_string(&path).expect("it is read");
+            assert!(text.ends_with(word) && text.lines().count() == 1, "{text}");
+            std::fs::remove_file(&path).expect("it is removed");
+        }
     }
 }

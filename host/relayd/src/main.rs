@@ -1,28 +1,49 @@
 //! relayd: real clients over UDP, on the proved relay. Sockets, clock and random numbers are here; every decision is the relay's.
 
+mod admission;
+#[cfg(test)]
+mod against_calls;
 mod args;
 mod clock;
-mod journal;
+mod counters;
+mod desk;
+mod explain;
+mod front;
+mod ledger;
 mod line;
 mod log;
+mod metrics;
+mod notify;
+mod output;
 mod pipe;
+mod program;
 mod random;
+mod rebuild;
+mod refusals;
 mod relay;
 mod relayed;
+mod reports;
 mod server;
 mod sockets;
+mod status;
+mod stun;
 mod sys;
 mod users;
 
+use admission::Gate;
 use args::{Action, Config};
+use desk::Desk;
 use log::say;
+use relay::Stop;
+use server::{Parts, Server};
 use std::env;
-use std::io::Write;
+use std::io::{self, Write};
 use std::process::ExitCode;
+use users::Users;
 
 /// Why relayd ends otherwise than by a signal.
 enum Trouble {
-    /// Bad arguments or unreadable files: status 2.
+    /// Bad arguments, or files that can't be read or written: status 2.
     Setup(String),
     /// A socket that can't be bound, or a relay that fails: status 1.
     Running(String),
@@ -32,9 +53,15 @@ fn main() -> ExitCode {
     let result = arguments().and_then(args::parse).map_err(Trouble::Setup);
     let done = result.and_then(|action| match action {
         Action::Help => {
-            let _ = std::io::stdout().write_all(args::HELP.as_bytes());
+            print(args::HELP);
             Ok(())
         }
+        Action::Version => {
+            print(&format!("{VERSION}, {}\n", front::ABOUT));
+            Ok(())
+        }
+        Action::User(words) => front::command(&words).map(|told| print(&told)).map_err(Trouble::Setup),
+        Action::Check(config) => check(&config),
         Action::Run(config) => run(config),
     });
     match done {
@@ -50,6 +77,13 @@ fn main() -> ExitCode {
     }
 }
 
+const VERSION: &str = concat!("relayd ", env!("CARGO_PKG_VERSION"));
+
+/// A reader that has gone is no trouble.
+fn print(text: &str) {
+    let _ = io::stdout().write_all(text.as_bytes());
+}
+
 fn arguments() -> Result<Vec<String>, String> {
     let text = |argument: std::ffi::OsString| {
         argument
@@ -59,25 +93,73 @@ fn arguments() -> Result<Vec<String>, String> {
     env::args_os().skip(1).map(text).collect()
 }
 
+fn check(config: &Config) -> Result<(), Trouble> {
+    gate(config, [0; 32])?;
+    print("relayd: the options and the users are good\n");
+    Ok(())
+}
+
+/// Who may use it, by password or by address; the key is for nonces.
+fn gate(config: &Config, key: [u8; 32]) -> Result<Gate, Trouble> {
+    let front = config.credentials.as_ref().map(|path| front::Front::open(path.clone(), key));
+    Ok(Gate {
+        users: Users::from_word(&config.user).map_err(Trouble::Setup)?,
+        front: front.transpose().map_err(Trouble::Setup)?,
+        keeps_local_peers: !config.allow_local_peers && !admission::is_local(config.relay),
+    })
+}
+
+/// Opens all that relayd needs, and runs it.
 fn run(config: Config) -> Result<(), Trouble> {
-    let users = users::Users::from_word(&config.user).map_err(Trouble::Setup)?;
-    let log = log::Log::open(config.log.as_deref()).map_err(Trouble::Setup)?;
+    let mut random = random::Random::open().map_err(|error| Trouble::Running(format!("no random source: {error}")))?;
+    let key = random.key().map_err(Trouble::Running)?;
+    let desk = desk(&config, key)?;
+    let signals = sys::signals::Signals::take().map_err(|error| Trouble::Running(format!("cannot take signals: {error}")))?;
     let path = args::find_calls(config.calls.as_deref(), env::current_exe().ok().as_deref()).map_err(Trouble::Setup)?;
-    let random = random::Random::open().map_err(|error| Trouble::Running(format!("no random source: {error}")))?;
-    let sockets = sockets::Sockets::bind(&config.listen, config.relay).map_err(Trouble::Running)?;
-    let signals = sys::Signals::take().map_err(|error| Trouble::Running(format!("cannot take signals: {error}")))?;
-    let relay = pipe::Pipe::start(&path, config.relay).map_err(Trouble::Setup)?;
+    let executable = program::Executable::open(&path).map_err(Trouble::Setup)?;
+    let relay = pipe::Pipe::start(executable, config.relay, signals.watch()).map_err(Trouble::Setup)?;
     let listen: Vec<String> = config.listen.iter().map(ToString::to_string).collect();
-    say(&format!("listening on {}, relaying on {}", listen.join(" and "), config.relay));
-    let server = server::Server {
+    let about = format!("{VERSION}, listening on {}, relaying on {}", listen.join(" and "), config.relay);
+    let mut reports = reports::Reports::new(config.status, config.metrics, about.clone())
+        .map_err(|error| Trouble::Running(format!("no standard output: {error}")))?;
+    reports.write(&desk, 0, false).map_err(Trouble::Setup)?;
+    let mut parts = Parts {
         relay,
-        sockets,
-        users,
-        log,
+        desk,
+        signals,
         random,
-        clock: clock::Clock::new(),
-        status: config.status,
+        reports,
+        notify: notify::Notify::new(),
         clock_offset: config.clock_offset,
     };
-    server.run(signals).map_err(|failure| Trouble::Running(failure.0))
+    let buffers = format!("{about}, with receive buffers of {} bytes", parts.desk.sockets.buffer);
+    say(buffers.trim_start_matches("relayd "));
+    if !parts.desk.log.is_standard_error() {
+        parts.desk.event(&buffers);
+    }
+    if let Some(credentials) = parts.desk.gate.front.as_ref().map(front::Front::told) {
+        parts.desk.event(&format!("clients need credentials: {credentials}"));
+    }
+    let ended = Server::new(parts).and_then(Server::run);
+    ended.map_err(|stop| match stop {
+        Stop::Failed(why) => Trouble::Running(why),
+        Stop::Asked => Trouble::Running("asked to end at the start".to_string()),
+    })
+}
+
+/// All that outcomes touch: users, log and sockets.
+fn desk(config: &Config, key: [u8; 32]) -> Result<Desk, Trouble> {
+    let gate = gate(config, key)?;
+    let log = log::Log::open(config.log.as_deref(), config.log_packets).map_err(Trouble::Setup)?;
+    let sockets = sockets::Sockets::bind(&config.listen, config.relay).map_err(Trouble::Running)?;
+    Ok(Desk {
+        sockets,
+        outbox: sockets::Outbox::default(),
+        gate,
+        ledger: ledger::Ledger::new(),
+        log,
+        clock: clock::Clock::new(config.clock_offset.is_some()),
+        counters: counters::Counters::default(),
+        refusals: refusals::Refusals::default(),
+    })
 }

@@ -1,351 +1,350 @@
-//! The proved relay as the program `calls` behind a pipe: a line for each datagram, an answer for each line.
+//! The proved relay as the program `calls` behind a pipe: a batch of lines, an answer for each line, and a new program with the same table
+//! if the old one ends, hangs or answers senselessly.
 
-use crate::journal::Journal;
 use crate::line::{self, Answer};
-use crate::log::say;
-use crate::relay::{Failure, Outcome, Relay};
+use crate::program::{Executable, Program, Trouble};
+use crate::relay::{Outcome, Stop};
 use crate::relayed;
-use std::io::{self, BufRead, BufReader, Read, Write};
-use std::net::{Ipv4Addr, Shutdown, SocketAddr, SocketAddrV4};
-use std::os::fd::OwnedFd;
+use crate::stun;
+use crate::sys::signals::Watch;
+use std::io::BufRead;
+use std::net::{Ipv4Addr, SocketAddr, SocketAddrV4};
+use std::ops::Range;
 use std::os::unix::net::UnixStream;
-use std::os::unix::process::CommandExt;
-use std::path::{Path, PathBuf};
-use std::process::{Child, Command, Stdio};
-use std::thread;
-use std::time::Duration;
+use std::time::{Duration, Instant};
 
-/// How long an answer may take. It takes microseconds; past this the program hangs.
-const PATIENCE: Duration = Duration::from_secs(10);
-/// Document 01's longest datagram, and the number of its refusal.
-const LONGEST: usize = 1500;
-const TOO_LONG: u8 = 4;
-
-/// A running `calls`. Ends with its value.
-struct Program {
-    child: Child,
-    to: UnixStream,
-    from: BufReader<UnixStream>,
-}
-
-impl Program {
-    fn start(path: &Path) -> io::Result<Self> {
-        let (ours, theirs) = UnixStream::pair()?;
-        ours.set_read_timeout(Some(PATIENCE))?;
-        ours.set_write_timeout(Some(PATIENCE))?;
-        let input = OwnedFd::from(theirs.try_clone()?);
-        // A group of its own: a terminal's Ctrl-C is for relayd, which then ends the program.
-        let child = Command::new(path)
-            .stdin(Stdio::from(input))
-            .stdout(Stdio::from(OwnedFd::from(theirs)))
-            .process_group(0)
-            .spawn()?;
-        let from = BufReader::with_capacity(1 << 16, ours.try_clone()?);
-        Ok(Program { child, to: ours, from })
-    }
-
-    /// Puts a line, and its answer without the newline into `answer`.
-    fn ask(&mut self, line: &[u8], answer: &mut Vec<u8>) -> io::Result<()> {
-        answer.clear();
-        self.to.write_all(line)?;
-        self.from.read_until(b'\n', answer)?;
-        match answer.pop() {
-            Some(b'\n') => Ok(()),
-            _ => Err(io::ErrorKind::UnexpectedEof.into()),
-        }
-    }
-
-    /// Puts all of `input`, ends it, and gives all that the program writes. A thread writes, so that neither waits for the other.
-    fn run(&mut self, input: &[u8]) -> io::Result<String> {
-        let mut to = self.to.try_clone()?;
-        let mut output = String::new();
-        thread::scope(|scope| {
-            let writer = scope.spawn(move || to.write_all(input).and_then(|()| to.shutdown(Shutdown::Write)));
-            self.from.read_to_string(&mut output)?;
-            writer.join().unwrap_or_else(|_| Err(io::ErrorKind::Other.into()))
-        })?;
-        Ok(output)
-    }
-}
-
-impl Drop for Program {
-    /// Its table is gone with it either way, so a program that hangs is not waited for.
-    fn drop(&mut self) {
-        let _ = self.to.shutdown(Shutdown::Both);
-        let _ = self.child.kill();
-        let _ = self.child.wait();
-    }
-}
+/// So many starts in so much time are too many.
+const STARTS: usize = 5;
+const IN_TIME: Duration = Duration::from_secs(30);
 
 /// The relay behind the pipe.
 pub struct Pipe {
+    executable: Executable,
     program: Program,
-    path: PathBuf,
     relay: Ipv4Addr,
-    journal: Journal,
-    line: Vec<u8>,
-    answer: Vec<u8>,
+    watch: Watch,
+    batch: Batch,
+    /// When the program was started again, the last few times.
+    restarts: Vec<Instant>,
+    /// How often it was started again.
+    pub restarted: u64,
+}
+
+/// The lines of one batch, and what is known of their answers.
+#[derive(Default)]
+struct Batch {
+    lines: Vec<u8>,
+    /// Where each line ends.
+    ends: Vec<usize>,
+    /// The answers that came, with their bytes' places; None for a line that was given up.
+    answers: Vec<Option<(Answer, Range<usize>)>>,
     bytes: Vec<u8>,
+    /// The program has failed in this batch, so the rest goes line by line, to find the one at fault.
+    one_by_one: bool,
+    /// The last line that was put alone has failed.
+    alone: bool,
+}
+
+impl Batch {
+    fn clear(&mut self) {
+        self.lines.clear();
+        self.ends.clear();
+        self.answers.clear();
+        self.bytes.clear();
+        self.one_by_one = false;
+        self.alone = false;
+    }
+
+    /// Where the line at this place begins.
+    fn begin(&self, place: usize) -> usize {
+        place.checked_sub(1).map_or(0, |before| self.ends[before])
+    }
+
+    /// Takes in the answers of a text, as far as they are answers: the first that is none is given.
+    fn take(&mut self, text: &[u8]) -> Result<(), String> {
+        let mut rest = text;
+        while !rest.is_empty() {
+            let behind = rest;
+            // Nothing can fail here; std finds the end of a line faster than a loop over its bytes does.
+            let length = rest.skip_until(b'\n').unwrap_or(0);
+            // What has no newline was cut short when the program ended.
+            let Some(answer) = behind[..length].strip_suffix(b"\n") else {
+                break;
+            };
+            let begin = self.bytes.len();
+            let read = line::read(answer, &mut self.bytes);
+            let read = read.ok_or_else(|| format!("answers '{}'", String::from_utf8_lossy(answer)))?;
+            if self.answers.len() == self.ends.len() {
+                return Err("answers what was not asked".to_string());
+            }
+            self.answers.push(Some((read, begin..self.bytes.len())));
+        }
+        Ok(())
+    }
 }
 
 impl Pipe {
     /// Starts the program and puts a first line, so that a file which isn't `calls` is told at once.
-    pub fn start(path: &Path, relay: Ipv4Addr) -> Result<Self, String> {
-        let program = Program::start(path).map_err(|error| format!("cannot start {}: {error}", path.display()))?;
+    pub fn start(executable: Executable, relay: Ipv4Addr, watch: Watch) -> Result<Self, String> {
+        let name = executable.name.clone();
+        let program = Program::start(&executable).map_err(|error| format!("cannot start {name}: {error}"))?;
         let mut pipe = Pipe {
+            executable,
             program,
-            path: path.to_path_buf(),
             relay,
-            journal: Journal::new(),
-            line: Vec::new(),
-            answer: Vec::new(),
-            bytes: Vec::new(),
+            watch,
+            batch: Batch::default(),
+            restarts: Vec::new(),
+            restarted: 0,
         };
-        match pipe.peer(0, SocketAddrV4::new(Ipv4Addr::UNSPECIFIED, 0), 0, b"") {
-            Ok(Outcome::Dropped) => {}
-            _ => return Err(format!("{} does not answer as calls does", path.display())),
+        pipe.peer(0, SocketAddrV4::new(Ipv4Addr::UNSPECIFIED, 0), 0, b"");
+        match pipe.ask() {
+            Ok(()) if pipe.outcome(0) == Outcome::Dropped => {}
+            _ => return Err(format!("{name} does not answer as calls does")),
         }
+        pipe.clear();
         Ok(pipe)
     }
 
-    /// Puts `self.line`, and reads the answer's bytes into `self.bytes`.
-    fn ask(&mut self) -> Result<Answer, Failure> {
-        if let Err(error) = self.program.ask(&self.line, &mut self.answer) {
-            return Err(self.ended(&error));
-        }
-        line::read(&self.answer, &mut self.bytes).ok_or_else(|| {
-            Failure(format!(
-                "{} answered '{}'",
-                self.path.display(),
-                String::from_utf8_lossy(&self.answer)
-            ))
-        })
+    /// What tells when the program ends. It is another one after a restart.
+    pub fn stream(&self) -> &UnixStream {
+        self.program.stream()
     }
 
-    fn ended(&mut self, error: &io::Error) -> Failure {
-        let path = self.path.display();
-        match self.program.child.try_wait() {
-            Ok(Some(status)) => Failure(format!("{path} has ended ({status})")),
-            _ if error.kind() == io::ErrorKind::WouldBlock => Failure(format!("{path} does not answer")),
-            _ => Failure(format!("{path} has ended its output: {error}")),
+    /// How the program has ended, if it has.
+    pub fn end(&mut self) -> Option<Trouble> {
+        self.program.end()
+    }
+
+    /// Begins a new batch.
+    pub fn clear(&mut self) {
+        self.batch.clear();
+    }
+
+    /// Puts a client's datagram into the batch. `start` is the number at which the search for a free port begins.
+    pub fn client(&mut self, now: u64, user: u32, start: u32, from: SocketAddr, datagram: &[u8]) {
+        line::client(&mut self.batch.lines, now, user, start, from, datagram);
+        self.batch.ends.push(self.batch.lines.len());
+    }
+
+    /// Puts a peer's datagram to one of the relay ports into the batch.
+    pub fn peer(&mut self, now: u64, from: SocketAddrV4, relay_port: u16, datagram: &[u8]) {
+        line::peer(&mut self.batch.lines, now, from.into(), relay_port, datagram);
+        self.batch.ends.push(self.batch.lines.len());
+    }
+
+    /// How many of the batch have their outcome.
+    pub fn answered(&self) -> usize {
+        self.batch.answers.len()
+    }
+
+    /// Asks for all outcomes that are missing. Where it fails, some may have come.
+    pub fn ask(&mut self) -> Result<(), Trouble> {
+        while self.batch.answers.len() < self.batch.ends.len() {
+            let (first, all) = (self.batch.answers.len(), self.batch.ends.len());
+            let behind = if self.batch.one_by_one { first + 1 } else { all };
+            let lines = &self.batch.lines[self.batch.begin(first)..self.batch.ends[behind - 1]];
+            let mut text = Vec::new();
+            let asked = self.program.ask(lines, behind - first, &mut text, self.watch);
+            let taken = self.batch.take(&text).map_err(Trouble::Program);
+            self.translate(first);
+            let done = taken.and(asked);
+            self.batch.alone = self.batch.one_by_one && self.batch.answers.len() == first && done != Err(Trouble::Ending);
+            done?;
+        }
+        Ok(())
+    }
+
+    /// Writes the relayed address into the replies from this place on.
+    fn translate(&mut self, first: usize) {
+        for (answer, range) in self.batch.answers[first..].iter().flatten() {
+            if matches!(answer, Answer::ToClient(_)) {
+                relayed::translate(&mut self.batch.bytes[range.clone()], self.relay);
+            }
         }
     }
 
-    /// The outcome of an answer to a datagram of this length.
-    fn outcome(&self, answer: &Answer, length: usize) -> Result<Outcome<'_>, Failure> {
+    /// The outcome of the call at this place of the batch.
+    pub fn outcome(&self, place: usize) -> Outcome<'_> {
+        let Some(Some((answer, range))) = self.batch.answers.get(place) else {
+            return Outcome::Lost;
+        };
+        let bytes = &self.batch.bytes[range.clone()];
         match *answer {
-            Answer::Refused(number) => Ok(Outcome::Refused(number)),
-            Answer::Dropped => Ok(Outcome::Dropped),
-            // Lines end at 3,200 characters, which no datagram that the relay takes makes. So this one is over 1,500 bytes.
-            Answer::NotTaken if length > LONGEST => Ok(Outcome::Refused(TOO_LONG)),
-            Answer::NotTaken => Err(Failure(format!("{} did not take a line", self.path.display()))),
-            Answer::ToClient(to) => Ok(Outcome::ToClient { to, bytes: &self.bytes }),
-            Answer::ToPeer(relay_port, to) => Ok(Outcome::ToPeer {
-                relay_port,
-                to,
-                bytes: &self.bytes,
-            }),
+            Answer::Refused(number) => Outcome::Refused(number),
+            Answer::Dropped => Outcome::Dropped,
+            // No datagram that comes this far makes such a line.
+            Answer::NotTaken => Outcome::Lost,
+            Answer::ToClient(to) => Outcome::ToClient { to, bytes },
+            Answer::ToPeer(relay_port, to) => Outcome::ToPeer { relay_port, to, bytes },
         }
     }
 
-    /// Keeps an accepted request, and makes the journal short when it is long.
-    fn record(&mut self, now: u64) {
-        self.journal.record(&self.line);
-        if !self.journal.is_long() {
-            return;
+    /// Starts a new program with this table: the lines of `count` requests, all of which it must accept. A line of the batch at which the
+    /// program has failed alone is given up.
+    pub fn restart(&mut self, why: &str, table: &[u8], count: usize, mut tell: impl FnMut(&str)) -> Result<(), Stop> {
+        tell(&format!("{} {why}; starting it again with its table", self.executable.name));
+        if self.batch.alone {
+            self.batch.answers.push(None);
+            self.batch.alone = false;
         }
-        let listed = self.listing(now).map_err(|failure| failure.0);
-        if let Err(why) = listed.and_then(|listing| self.journal.shorten(&listing, now)) {
-            say(&format!("the journal could not be made short: {why}"));
-            self.journal.allow_more();
-        }
-    }
-}
-
-/// Whether a client's request was accepted: its reply is a success response, whose type has 0x0100 and not 0x0010.
-fn is_success(reply: &[u8]) -> bool {
-    matches!(reply, [0x01, low, ..] if low & 0xf0 == 0)
-}
-
-impl Relay for Pipe {
-    fn client<'a>(&'a mut self, now: u64, user: u32, start: u32, from: SocketAddr, datagram: &'a [u8]) -> Result<Outcome<'a>, Failure> {
-        line::client(&mut self.line, now, user, start, from, datagram);
-        let answer = self.ask()?;
-        if matches!(answer, Answer::ToClient(_)) && is_success(&self.bytes) {
-            self.record(now);
-            relayed::translate(&mut self.bytes, self.relay);
-        }
-        self.outcome(&answer, datagram.len())
-    }
-
-    fn peer<'a>(&'a mut self, now: u64, from: SocketAddrV4, relay_port: u16, datagram: &'a [u8]) -> Result<Outcome<'a>, Failure> {
-        line::peer(&mut self.line, now, from.into(), relay_port, datagram);
-        let answer = self.ask()?;
-        self.outcome(&answer, datagram.len())
-    }
-
-    fn check(&mut self) -> Result<(), Failure> {
-        match self.program.child.try_wait() {
-            Ok(None) => Ok(()),
-            Ok(Some(status)) => Err(Failure(format!("{} has ended ({status})", self.path.display()))),
-            Err(error) => Err(Failure(format!("{} is lost: {error}", self.path.display()))),
+        self.batch.one_by_one = true;
+        loop {
+            self.may_start(why)?;
+            match self.start_with(table, count) {
+                Ok(()) => return Ok(()),
+                Err(Trouble::Ending) => return Err(Stop::Asked),
+                Err(Trouble::Program(again)) => tell(&format!("{} {again}", self.executable.name)),
+            }
         }
     }
 
-    fn listing(&mut self, now: u64) -> Result<String, Failure> {
-        let input = self.journal.input(now);
-        let path = self.path.display();
-        let output = Program::start(&self.path)
-            .and_then(|mut second| second.run(&input))
-            .map_err(|error| Failure(format!("no listing from {path}: {error}")))?;
-        let asked = input.split(|&byte| byte == b'\n').count() - 1;
-        let (answers, listing) = after_lines(&output, asked).ok_or_else(|| Failure(format!("no listing from {path}")))?;
-        let accepted = answers.lines().filter(|answer| is_accepted(answer)).count();
-        if accepted + 1 != asked {
-            return Err(Failure(format!("{path} took {accepted} of {} accepted requests again", asked - 1)));
+    fn may_start(&mut self, why: &str) -> Result<(), Stop> {
+        let now = Instant::now();
+        self.restarts.retain(|time| now.duration_since(*time) < IN_TIME);
+        if self.restarts.len() == STARTS {
+            let name = &self.executable.name;
+            return Err(Stop::Failed(format!(
+                "{name} {why}, and {STARTS} times before in {} seconds",
+                IN_TIME.as_secs()
+            )));
         }
-        Ok(listing.to_string())
+        self.restarts.push(now);
+        self.restarted += 1;
+        Ok(())
+    }
+
+    fn start_with(&mut self, table: &[u8], count: usize) -> Result<(), Trouble> {
+        self.program = Program::start(&self.executable).map_err(|error| Trouble::Program(format!("cannot be started: {error}")))?;
+        let mut text = Vec::new();
+        self.program.ask(table, count, &mut text, self.watch)?;
+        let accepted = text.split(|&byte| byte == b'\n').filter(|answer| is_accepted(answer)).count();
+        if accepted == count {
+            Ok(())
+        } else {
+            Err(Trouble::Program(format!("took {accepted} of {count} requests again")))
+        }
+    }
+
+    /// The program's process, for tests.
+    #[cfg(test)]
+    pub fn process(&self) -> u32 {
+        self.program.id()
     }
 }
 
-/// Whether an answer's line is a success response.
-pub fn is_accepted(answer: &str) -> bool {
+/// Whether an answer's line is a success response: an accepted request's.
+pub fn is_accepted(answer: &[u8]) -> bool {
     let mut bytes = Vec::new();
-    matches!(line::read(answer.as_bytes(), &mut bytes), Some(Answer::ToClient(_))) && is_success(&bytes)
-}
-
-/// The first `count` lines of a text, and the rest.
-fn after_lines(text: &str, count: usize) -> Option<(&str, &str)> {
-    let mut ends = text.match_indices('\n').map(|(place, _)| place + 1);
-    text.split_at_checked(ends.nth(count.checked_sub(1)?)?)
+    matches!(line::read(answer, &mut bytes), Some(Answer::ToClient(_))) && matches!(stun::response(&bytes), Some((_, true)))
 }
 
 #[cfg(test)]
 mod tests {
     use super::*;
-    use std::fs;
-    use std::os::unix::fs::PermissionsExt;
+    use crate::program::tests::Script;
+    use std::path::Path;
 
-    /// A program in place of `calls`: a shell script that answers each line. Removed with its value.
-    struct Script(PathBuf);
-
-    impl Script {
-        fn new(name: &str, body: &str) -> Self {
-            let path = std::env::temp_dir().join(format!("relayd-test-{}-{name}", std::process::id()));
-            fs::write(&path, format!("#!/bin/sh\n{body}\n")).expect("a script is written");
-            fs::set_permissions(&path, fs::Permissions::from_mode(0o700)).expect("and can be run");
-            Script(path)
-        }
-
-        fn start(&self) -> Result<Pipe, String> {
-            // Another test's child may still hold the file that was just written.
-            loop {
-                match Pipe::start(&self.0, Ipv4Addr::LOCALHOST) {
-                    Err(busy) if busy.contains("busy") => thread::sleep(Duration::from_millis(5)),
-                    started => return started,
-                }
+    fn start(script: &Script) -> Result<Pipe, String> {
+        // Another test's child may still hold the file that was just written.
+        loop {
+            match Pipe::start(script.open(), Ipv4Addr::LOCALHOST, Watch::never()) {
+                Err(busy) if busy.contains("busy") => std::thread::sleep(Duration::from_millis(5)),
+                started => return started,
             }
-        }
-    }
-
-    impl Drop for Script {
-        fn drop(&mut self) {
-            let _ = fs::remove_file(&self.0);
         }
     }
 
     /// Answers the first line as `calls` does, and then each with `answer`.
     fn always(answer: &str) -> String {
-        format!("read line; echo D; while read line; do printf '{answer}\\n'; done; printf 'A\\t0\\n'")
+        format!("read line; echo D; while read line; do printf '{answer}\\n'; done")
     }
 
     fn from() -> SocketAddr {
         SocketAddr::from(([198, 51, 100, 7], 40000))
     }
 
+    /// Asks about so many datagrams, each of one byte, its place.
+    fn ask(pipe: &mut Pipe, count: u8) -> Result<(), Trouble> {
+        pipe.clear();
+        for place in 0..count {
+            pipe.client(1, 2, 3, from(), &[place]);
+        }
+        pipe.ask()
+    }
+
     #[test]
     fn answers_are_outcomes() {
         let script = Script::new("outcomes", &always(r"F\t49157\tc0000296\t5000\t6869"));
-        let mut pipe = script.start().expect("it starts");
-        let to = SocketAddr::from(([192, 0, 2, 150], 5000));
-        let outcome = pipe.client(1, 2, 3, from(), b"x").expect("an outcome");
-        let relay_port = 49157;
+        let mut pipe = start(&script).expect("it starts");
+        ask(&mut pipe, 64).expect("answers");
+        let (relay_port, to) = (49157, SocketAddr::from(([192, 0, 2, 150], 5000)));
+        for place in 0..64 {
+            let bytes = b"hi";
+            assert_eq!(pipe.outcome(place), Outcome::ToPeer { relay_port, to, bytes });
+        }
+        assert_eq!(pipe.outcome(64), Outcome::Lost);
+    }
+
+    #[test]
+    fn a_program_that_ends_is_started_again_with_its_table() {
+        // Ends at the third line for good, and answers the table's two requests with success.
+        let body = r"n=0; while read line; do n=$((n+1)); case $line in *T*) printf 'S\tc6336407\t40000\t010800002112a442000000000000000000000000\n';; P*) echo D;; *) [ $n = 4 ] && exit 1; echo 'R	1';; esac; done";
+        let script = Script::new("again", body);
+        let mut pipe = start(&script).expect("it starts");
+        assert_eq!(ask(&mut pipe, 4), Err(Trouble::Program("has ended (exit status: 1)".to_string())));
+        assert_eq!(pipe.answered(), 2);
+        let before = pipe.process();
+        let mut told = Vec::new();
+        pipe.restart("has ended", b"T\nT\n", 2, |what| told.push(what.to_string()))
+            .expect("it starts again");
+        assert!(pipe.process() != before && pipe.restarted == 1 && told.len() == 1, "{told:?}");
+        // The third line is the new one's third too, the fourth its fourth: that one fails alone and is given up.
+        assert!(pipe.ask().is_err());
+        assert_eq!(pipe.answered(), 3);
+        pipe.restart("has ended", b"T\nT\n", 2, |_| {}).expect("it starts again");
+        pipe.ask().expect("all have their outcome");
+        let outcomes: Vec<Outcome> = (0..4).map(|place| pipe.outcome(place)).collect();
         assert_eq!(
-            outcome,
-            Outcome::ToPeer {
-                relay_port,
-                to,
-                bytes: b"hi"
-            }
+            outcomes,
+            [Outcome::Refused(1), Outcome::Refused(1), Outcome::Refused(1), Outcome::Lost]
         );
     }
 
     #[test]
-    fn a_line_too_long_is_refusal_4_and_no_other_is() {
-        let script = Script::new("long", &always("E"));
-        let mut pipe = script.start().expect("it starts");
-        let outcome = pipe.client(1, 2, 3, from(), &[0; 9000]).expect("an outcome");
-        assert_eq!(outcome, Outcome::Refused(4));
-        assert!(pipe.client(1, 2, 3, from(), &[0; 1500]).is_err());
+    fn a_program_that_fails_again_and_again_ends_relayd() {
+        let script = Script::new("never", "read line; echo D; read line; exit 1");
+        let mut pipe = start(&script).expect("it starts");
+        let stop = pipe.restart("has ended", b"T\n", 1, |_| {});
+        assert!(matches!(stop, Err(Stop::Failed(why)) if why.contains("5 times before")));
     }
 
     #[test]
-    fn the_listing_is_of_accepted_requests() {
-        let body =
-            r"while read line; do case $line in Q*) printf 'S\tc6336407\t40000\t01030000\n';; *) echo D;; esac; done; printf 'A\t0\n'";
-        let script = Script::new("listing", body);
-        let mut pipe = script.start().expect("it starts");
-        pipe.client(1, 2, 3, from(), b"x").expect("accepted");
-        pipe.peer(1, SocketAddrV4::new(Ipv4Addr::LOCALHOST, 1), 49152, b"x")
-            .expect("dropped");
-        assert_eq!(pipe.journal.input(9).split(|&byte| byte == b'\n').count(), 3);
-        assert_eq!(pipe.listing(9).expect("a listing"), "A\t0\n");
+    fn an_answer_without_sense_is_trouble() {
+        let script = Script::new("senseless", &always("hello"));
+        let mut pipe = start(&script).expect("it starts");
+        assert_eq!(ask(&mut pipe, 1), Err(Trouble::Program("answers 'hello'".to_string())));
+        let script = Script::new("talkative", &always(r"D\nD\nD"));
+        let mut pipe = start(&script).expect("it starts");
+        assert_eq!(ask(&mut pipe, 1), Err(Trouble::Program("answers what was not asked".to_string())));
     }
 
     #[test]
     fn a_success_is_told_from_an_error() {
-        assert!(is_accepted("S\tc6336407\t40000\t01080000"));
-        for answer in [
-            "S\tc6336407\t40000\t01180000",
-            "S\tc6336407\t40000\t00170000",
-            "S\tc6336407\t40000\t",
-            "D",
-            "E",
-            "R\t1",
-        ] {
-            assert!(!is_accepted(answer), "{answer}");
+        let head = "2112a442000000000000000000000000";
+        assert!(is_accepted(format!("S\tc6336407\t40000\t01080000{head}").as_bytes()));
+        for answer in ["S\tc6336407\t40000\t01180000", "S\tc6336407\t40000\t00170000"] {
+            assert!(!is_accepted(format!("{answer}{head}").as_bytes()), "{answer}");
+        }
+        for answer in ["S\tc6336407\t40000\t", "D", "E", "R\t1", ""] {
+            assert!(!is_accepted(answer.as_bytes()), "{answer}");
         }
     }
 
     #[test]
-    fn an_error_response_is_not_recorded() {
-        let script = Script::new("error", &always(r"S\tc6336407\t40000\t01130000"));
-        let mut pipe = script.start().expect("it starts");
-        pipe.client(1, 2, 3, from(), b"x").expect("an outcome");
-        assert_eq!(pipe.journal.input(9), b"P\t9\t00000000\t0\t0\t\n");
-    }
-
-    #[test]
-    fn a_program_that_ends_is_told() {
-        let script = Script::new("ends", "read line; echo D; read line; exit 3");
-        let mut pipe = script.start().expect("it starts");
-        assert!(pipe.check().is_ok());
-        let failure = pipe.client(1, 2, 3, from(), b"x").expect_err("it ended");
-        assert!(failure.0.contains("has ended"), "{failure}");
-        let _ = pipe.program.child.wait();
-        assert!(pipe.check().expect_err("it ended").0.contains("exit status: 3"));
-    }
-
-    #[test]
     fn what_is_not_calls_does_not_start() {
-        assert!(Script::new("wrong", "echo hello").start().is_err());
-        assert!(Pipe::start(Path::new("/no/such/calls"), Ipv4Addr::LOCALHOST).is_err());
-    }
-
-    #[test]
-    fn lines_are_parted() {
-        assert_eq!(after_lines("a\nb\nc\n", 2), Some(("a\nb\n", "c\n")));
-        assert_eq!(after_lines("a\nb\n", 2), Some(("a\nb\n", "")));
-        assert_eq!(after_lines("a\n", 2), None);
+        assert!(start(&Script::new("wrong", "echo hello")).is_err());
+        assert!(Executable::open(Path::new("/no/such/calls")).is_err());
+        assert!(Executable::open(Path::new("/")).is_err());
     }
 }

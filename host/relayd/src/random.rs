@@ -18,6 +18,13 @@ impl Random {
         self.0.read_exact(&mut bytes)?;
         Ok(u32::from_ne_bytes(bytes))
     }
+
+    /// A key for as long as relayd runs.
+    pub fn key(&mut self) -> Result<[u8; 32], String> {
+        let mut bytes = [0; 32];
+        self.0.read_exact(&mut bytes).map_err(|error| format!("no random key: {error}"))?;
+        Ok(bytes)
+    }
 }
 
 #[cfg(test)]

@@ -1,66 +1,110 @@
 //! The sockets: the server's one or two, and one for each relay port.
 
+use crate::ledger::{FIRST_PORT, PORTS, place};
+use crate::sys::options::{ask_for_buffers, dropped, let_in_all, let_in_only};
 use std::io;
 use std::net::{Ipv4Addr, SocketAddr, SocketAddrV6, UdpSocket};
 
-/// The relay ports of document 01.
-pub const FIRST_PORT: u16 = 49152;
-/// How many there are.
-pub const PORTS: u16 = 128;
+/// What each socket is asked to hold of a burst.
+const BUFFER: u32 = 4 << 20;
 
 /// All sockets, none of which ever waits.
 pub struct Sockets {
     /// The server's, one for each family.
-    pub servers: Vec<UdpSocket>,
+    servers: Vec<UdpSocket>,
     /// The relay ports', in order.
-    pub ports: Vec<UdpSocket>,
+    ports: Vec<UdpSocket>,
     listen: Vec<SocketAddr>,
+    /// The receive buffer that the least favoured socket has.
+    pub buffer: u32,
+}
+
+/// The socket that a datagram came in by.
+#[derive(Clone, Copy, Debug, PartialEq, Eq)]
+pub enum Door {
+    /// A server's.
+    Server,
+    /// That of a relay port.
+    Port(u16),
 }
 
 impl Sockets {
-    /// Binds all of them, or says which one failed.
+    /// Binds all of them, or says which one failed. The relay ports let nothing in yet.
     pub fn bind(listen: &[SocketAddr], relay: Ipv4Addr) -> Result<Self, String> {
-        let servers = listen
-            .iter()
+        let mut buffer = BUFFER;
+        let mut bind = |what: &str, address: SocketAddr| {
+            let bound = UdpSocket::bind(address).and_then(|socket| {
+                socket.set_nonblocking(true)?;
+                buffer = buffer.min(ask_for_buffers(&socket, BUFFER)?);
+                Ok(socket)
+            });
+            bound.map_err(|error| format!("cannot bind {what} {address}: {error}"))
+        };
+        let servers = (listen.iter())
             .map(|&address| bind("server address", address))
             .collect::<Result<_, _>>()?;
         let places = (FIRST_PORT..FIRST_PORT + PORTS).map(|port| SocketAddr::from((relay, port)));
-        let ports = places.map(|address| bind("relay port", address)).collect::<Result<_, _>>()?;
-        Ok(Sockets {
+        let ports: Vec<UdpSocket> = places.map(|address| bind("relay port", address)).collect::<Result<_, _>>()?;
+        let sockets = Sockets {
             servers,
             ports,
             listen: listen.to_vec(),
-        })
+            buffer,
+        };
+        for port in FIRST_PORT..FIRST_PORT + PORTS {
+            sockets.let_in(port, &[]);
+        }
+        Ok(sockets)
     }
 
-    /// Sends to a client, from the server's socket of its family.
-    pub fn to_client(&self, to: SocketAddr, bytes: &[u8]) -> io::Result<()> {
-        let (place, to) = route(&self.listen, to).ok_or(io::ErrorKind::AddrNotAvailable)?;
-        whole(self.servers[place].send_to(bytes, to)?, bytes)
+    /// All of them, each with the number that `at` and `door` know it by.
+    pub fn numbered(&self) -> impl Iterator<Item = (usize, &UdpSocket)> {
+        self.servers.iter().chain(&self.ports).enumerate()
     }
 
-    /// Sends to a peer, from a relay port's socket.
-    pub fn to_peer(&self, relay_port: u16, to: SocketAddr, bytes: &[u8]) -> io::Result<()> {
-        let place = usize::from(relay_port.wrapping_sub(FIRST_PORT));
-        let socket = self.ports.get(place).ok_or(io::ErrorKind::AddrNotAvailable)?;
-        whole(socket.send_to(bytes, to)?, bytes)
+    /// The socket of a number.
+    pub fn at(&self, number: usize) -> Option<&UdpSocket> {
+        match number.checked_sub(self.servers.len()) {
+            None => self.servers.get(number),
+            Some(place) => self.ports.get(place),
+        }
+    }
+
+    /// What stands behind a number.
+    pub fn door(&self, number: usize) -> Door {
+        match number.checked_sub(self.servers.len()) {
+            None => Door::Server,
+            Some(place) => Door::Port(FIRST_PORT.saturating_add(u16::try_from(place).unwrap_or(0))),
+        }
+    }
+
+    /// The number of the server's socket that reaches this client, and the address to use: a link's own addresses need the server's scope.
+    pub fn to_client(&self, client: SocketAddr) -> Option<(usize, SocketAddr)> {
+        route(&self.listen, client)
+    }
+
+    /// The number of a relay port's socket.
+    pub fn to_peer(&self, relay_port: u16) -> Option<usize> {
+        let place = place(relay_port);
+        (place < self.ports.len()).then_some(self.servers.len() + place)
+    }
+
+    /// Lets only these peers' datagrams in at a relay port. Where the kernel does not take the filter, all are let in and the relay drops.
+    pub fn let_in(&self, relay_port: u16, peers: &[Ipv4Addr]) {
+        let Some(socket) = self.ports.get(place(relay_port)) else { return };
+        if let_in_only(socket, peers).is_err() {
+            let _ = let_in_all(socket);
+        }
+    }
+
+    /// How many datagrams the kernel has dropped: for want of room at the server's sockets, and at the relay ports, where they had no
+    /// permission or there was no room.
+    pub fn dropped_by_kernel(&self) -> (u64, u64) {
+        let sum = |sockets: &[UdpSocket]| sockets.iter().map(|socket| u64::from(dropped(socket).unwrap_or(0))).sum();
+        (sum(&self.servers), sum(&self.ports))
     }
 }
 
-fn bind(what: &str, address: SocketAddr) -> Result<UdpSocket, String> {
-    let bound = UdpSocket::bind(address).and_then(|socket| socket.set_nonblocking(true).map(|()| socket));
-    bound.map_err(|error| format!("cannot bind {what} {address}: {error}"))
-}
-
-fn whole(sent: usize, bytes: &[u8]) -> io::Result<()> {
-    if sent == bytes.len() {
-        Ok(())
-    } else {
-        Err(io::ErrorKind::WriteZero.into())
-    }
-}
-
-/// Which server socket reaches this client, and by which address: a link's own addresses need the server's scope.
 fn route(listen: &[SocketAddr], to: SocketAddr) -> Option<(usize, SocketAddr)> {
     let place = listen.iter().position(|address| address.is_ipv4() == to.is_ipv4())?;
     match (listen[place], to) {
@@ -69,6 +113,37 @@ fn route(listen: &[SocketAddr], to: SocketAddr) -> Option<(usize, SocketAddr)> {
             Some((place, scoped.into()))
         }
         _ => Some((place, to)),
+    }
+}
+
+/// Datagrams that are to be sent, kept until the batch is over.
+#[derive(Default)]
+pub struct Outbox {
+    bytes: Vec<u8>,
+    /// The socket's number, and the message.
+    waiting: Vec<(usize, (SocketAddr, std::ops::Range<usize>))>,
+}
+
+impl Outbox {
+    /// Adds one.
+    pub fn put(&mut self, number: usize, to: SocketAddr, bytes: &[u8]) {
+        let begin = self.bytes.len();
+        self.bytes.extend_from_slice(bytes);
+        self.waiting.push((number, (to, begin..self.bytes.len())));
+    }
+
+    /// Sends all, those of one socket in order and at once, and tells each that failed. What is not sent (a full buffer, an unreachable
+    /// host) is gone, as on any UDP path.
+    pub fn send(&mut self, sockets: &Sockets, mut failed: impl FnMut(SocketAddr, &io::Error)) {
+        self.waiting.sort_by_key(|(number, _)| *number);
+        for group in self.waiting.chunk_by(|(one, _), (other, _)| one == other) {
+            let messages: Vec<_> = group.iter().map(|(_, message)| message.clone()).collect();
+            if let Some(socket) = sockets.at(group[0].0) {
+                crate::sys::datagrams::send(socket, &self.bytes, &messages, |place, error| failed(messages[place].0, &error));
+            }
+        }
+        self.bytes.clear();
+        self.waiting.clear();
     }
 }
 

@@ -1,8 +1,8 @@
-//! Who a client is: the number that the front end would give. Stands in for it until there is one.
+//! Who a client is, by its address: the number that the relay knows it by, and the name that people do.
 
 use std::collections::HashMap;
 use std::fs;
-use std::net::{IpAddr, SocketAddr};
+use std::net::{IpAddr, Ipv4Addr, Ipv6Addr, SocketAddr};
 
 /// The highest user number that document 01 takes.
 const LAST: u32 = 32;
@@ -14,8 +14,19 @@ pub enum Users {
     All(u32),
     /// 1 + port modulo 32: for tests.
     ByPort,
-    /// By address; others are nobody.
-    Site(HashMap<IpAddr, u32>),
+    /// By address, from a file; others are nobody.
+    Site { path: String, site: Site },
+}
+
+/// The lines of a users' file, by the length of their prefixes, longest first.
+#[derive(Debug, Default, PartialEq, Eq)]
+pub struct Site(Vec<(u8, HashMap<IpAddr, User>)>);
+
+/// What a line says of an address.
+#[derive(Clone, Debug, PartialEq, Eq)]
+struct User {
+    number: u32,
+    name: String,
 }
 
 impl Users {
@@ -27,8 +38,17 @@ impl Users {
         if !word.is_empty() && word.bytes().all(|byte| byte.is_ascii_digit()) {
             return number(word).map(Users::All);
         }
-        let text = fs::read_to_string(word).map_err(|error| format!("cannot read users from {word}: {error}"))?;
-        site(&text).map_err(|(line, why)| format!("{word}, line {line}: {why}"))
+        let (path, site) = (word.to_string(), read(word)?);
+        Ok(Users::Site { path, site })
+    }
+
+    /// Reads the file again, if there is one, and says what was done. A file with an error changes nothing.
+    pub fn reload(&mut self) -> Result<String, String> {
+        let Users::Site { path, site } = self else {
+            return Ok("there is no users' file to read again".to_string());
+        };
+        *site = read(path)?;
+        Ok(format!("{path} was read again"))
     }
 
     /// The user number of this client.
@@ -36,39 +56,127 @@ impl Users {
         match self {
             Users::All(user) => *user,
             Users::ByPort => 1 + u32::from(client.port()) % LAST,
-            Users::Site(users) => users.get(&client.ip()).copied().unwrap_or(0),
+            Users::Site { site, .. } => site.find(client.ip()).map_or(0, |user| user.number),
+        }
+    }
+
+    /// The name of this client's user, if the file has one.
+    pub fn name(&self, client: SocketAddr) -> Option<&str> {
+        let Users::Site { site, .. } = self else { return None };
+        site.find(client.ip())
+            .map(|user| user.name.as_str())
+            .filter(|name| !name.is_empty())
+    }
+}
+
+/// A user for people: 'user 3 (mechanic)'.
+pub fn who(user: u32, name: Option<&str>) -> String {
+    match (user, name) {
+        (0, _) => "nobody".to_string(),
+        (user, Some(name)) => format!("user {user} ({name})"),
+        (user, None) => format!("user {user}"),
+    }
+}
+
+impl Site {
+    /// The line with the longest prefix of this address.
+    fn find(&self, address: IpAddr) -> Option<&User> {
+        self.0.iter().find_map(|(length, users)| users.get(&network(address, *length)?))
+    }
+
+    /// Adds a line, if its prefix is new.
+    fn add(&mut self, prefix: IpAddr, length: u8, user: User) -> bool {
+        let place = match self.0.binary_search_by(|(other, _)| length.cmp(other)) {
+            Ok(place) => place,
+            Err(place) => {
+                self.0.insert(place, (length, HashMap::new()));
+                place
+            }
+        };
+        self.0[place].1.insert(prefix, user).is_none()
+    }
+}
+
+/// The first bits of an address, the others 0; None where it has not so many.
+fn network(address: IpAddr, length: u8) -> Option<IpAddr> {
+    let length = u32::from(length);
+    match address {
+        IpAddr::V4(ip) => {
+            let mask = u32::MAX.checked_shl(32u32.checked_sub(length)?).unwrap_or(0);
+            Some(Ipv4Addr::from(ip.to_bits() & mask).into())
+        }
+        IpAddr::V6(ip) => {
+            let mask = u128::MAX.checked_shl(128u32.checked_sub(length)?).unwrap_or(0);
+            Some(Ipv6Addr::from(ip.to_bits() & mask).into())
         }
     }
 }
 
 fn number(word: &str) -> Result<u32, String> {
+    let digits = word.bytes().all(|byte| byte.is_ascii_digit());
     match word.parse() {
-        Ok(user) if user <= LAST => Ok(user),
+        Ok(user) if digits && user <= LAST => Ok(user),
         _ => Err(format!("user '{word}' is not a number from 0 to {LAST}")),
     }
 }
 
-/// Lines of address and user number; blank lines and what follows a `#` are skipped. An error names its line.
-fn site(text: &str) -> Result<Users, (usize, String)> {
-    let mut users = HashMap::new();
-    for (place, line) in text.lines().enumerate() {
-        let words: Vec<&str> = line.split('#').next().unwrap_or("").split_whitespace().collect();
-        let entry = match words[..] {
-            [] => continue,
-            [address, user] => entry(address, user),
-            _ => Err("not an address and a user number".to_string()),
-        };
-        let (address, user) = entry.map_err(|why| (place + 1, why))?;
-        if users.insert(address, user).is_some() {
-            return Err((place + 1, format!("{address} is there twice")));
-        }
-    }
-    Ok(Users::Site(users))
+fn read(path: &str) -> Result<Site, String> {
+    let text = fs::read_to_string(path).map_err(|error| format!("cannot read users from {path}: {error}"))?;
+    site(&text).map_err(|(line, why)| format!("{path}, line {line}: {why}"))
 }
 
-fn entry(address: &str, user: &str) -> Result<(IpAddr, u32), String> {
-    let parsed = address.parse().map_err(|_| format!("'{address}' is not an IP address"))?;
-    Ok((parsed, number(user)?))
+/// Lines of an address or a prefix, a user number and a name, which may be left out; blank lines and what follows a `#` are skipped. An
+/// error names its line.
+fn site(text: &str) -> Result<Site, (usize, String)> {
+    let mut site = Site::default();
+    for (place, line) in text.lines().enumerate() {
+        let words: Vec<&str> = line.split('#').next().unwrap_or("").split_whitespace().collect();
+        let added = match words[..] {
+            [] => Ok(()),
+            [prefix, user, ref name @ ..] => add_line(&mut site, prefix, user, &name.join(" ")),
+            [_] => Err("not an address, a user number and a name".to_string()),
+        };
+        added.map_err(|why| (place + 1, why))?;
+    }
+    Ok(site)
+}
+
+fn add_line(site: &mut Site, word: &str, user: &str, name: &str) -> Result<(), String> {
+    let (prefix, length) = prefix(word)?;
+    let user = User {
+        number: number(user)?,
+        name: name.to_string(),
+    };
+    if site.add(prefix, length, user) {
+        Ok(())
+    } else {
+        Err(format!("{word} is there twice"))
+    }
+}
+
+/// An address, or a prefix as in 192.0.2.0/24.
+fn prefix(word: &str) -> Result<(IpAddr, u8), String> {
+    let (address, length) = word
+        .split_once('/')
+        .map_or((word, None), |(address, length)| (address, Some(length)));
+    let ip: IpAddr = address.parse().map_err(|_| format!("'{address}' is not an IP address"))?;
+    if let IpAddr::V6(ip) = ip {
+        if let Some(ipv4) = ip.to_ipv4_mapped() {
+            return Err(format!("'{address}' is IPv4 in the form of IPv6: write {ipv4}"));
+        }
+    }
+    let whole = if ip.is_ipv4() { 32 } else { 128 };
+    let length = match length {
+        None => whole,
+        Some(text) => match text.parse() {
+            Ok(length) if length <= whole && text.bytes().all(|byte| byte.is_ascii_digit()) => length,
+            _ => return Err(format!("'/{text}' is not a length from /0 to /{whole}")),
+        },
+    };
+    match network(ip, length) {
+        Some(first) if first == ip => Ok((ip, length)),
+        first => Err(format!("{word} has bits behind its prefix: write {}/{length}", first.unwrap_or(ip))),
+    }
 }
 
 #[cfg(test)]
@@ -79,12 +187,19 @@ mod tests {
         text.parse().expect("an address")
     }
 
+    fn users(text: &str) -> Users {
+        let (path, site) = (String::new(), site(text).expect("a good file"));
+        Users::Site { path, site }
+    }
+
     #[test]
     fn a_number_for_all() {
         let users = Users::from_word("32").expect("in range");
         assert_eq!(users.of(at("[::1]:9")), 32);
+        assert_eq!(who(32, users.name(at("[::1]:9"))), "user 32");
         assert!(Users::from_word("33").is_err());
         assert!(Users::from_word("99999999999").is_err());
+        assert!(Users::from_word("+3").expect_err("a file of that name").contains("+3"));
     }
 
     #[test]
@@ -99,18 +214,52 @@ mod tests {
 
     #[test]
     fn a_site_file() {
-        let users = site("# camera\n192.0.2.7 3\n\nfd00::1\t4 # mechanic\n").expect("a good file");
+        let users = users("# camera\n192.0.2.7 3\n\nfd00::1\t4 the mechanic # on call\n");
         assert_eq!(users.of(at("192.0.2.7:5")), 3);
         assert_eq!(users.of(at("[fd00::1]:5")), 4);
+        assert_eq!(who(4, users.name(at("[fd00::1]:5"))), "user 4 (the mechanic)");
+        assert_eq!(who(3, users.name(at("192.0.2.7:5"))), "user 3");
         assert_eq!(users.of(at("192.0.2.8:5")), 0);
+        assert_eq!(who(0, users.name(at("192.0.2.8:5"))), "nobody");
+    }
+
+    #[test]
+    fn the_longest_prefix_counts() {
+        let users = users("10.0.0.0/8 1 works\n10.1.0.0/16 2 hall\n10.1.2.3 3 press\n0.0.0.0/0 4\nfd00::/16 5\n");
+        let found: Vec<u32> = ["10.9.9.9:1", "10.1.9.9:1", "10.1.2.3:1", "11.0.0.1:1", "[fd00::9]:1", "[fe80::1]:1"]
+            .map(|client| users.of(at(client)))
+            .to_vec();
+        assert_eq!(found, [1, 2, 3, 4, 5, 0]);
+        assert_eq!(users.name(at("10.1.9.9:1")), Some("hall"));
     }
 
     #[test]
     fn a_bad_site_file_names_its_line() {
-        assert_eq!(site("192.0.2.7 3\n192.0.2.8\n").expect_err("one word").0, 2);
-        assert_eq!(site("\nhost 3\n").expect_err("no address").0, 2);
-        assert_eq!(site("192.0.2.7 33\n").expect_err("over 32").0, 1);
-        assert_eq!(site("192.0.2.7 1\n192.0.2.7 2\n").expect_err("twice").0, 2);
+        let wrong = |text: &str| site(text).expect_err(text);
+        assert_eq!(wrong("192.0.2.7 3\n192.0.2.8\n").0, 2);
+        assert_eq!(wrong("\nhost 3\n").0, 2);
+        assert_eq!(wrong("192.0.2.7 33\n").0, 1);
+        assert_eq!(wrong("192.0.2.7 1\n192.0.2.7/32 2\n").0, 2);
+        assert!(wrong("192.0.2.7 +3").1.contains("'+3' is not a number"));
+        assert!(wrong("::ffff:192.0.2.7 3").1.contains("write 192.0.2.7"));
+        assert!(wrong("192.0.2.7/24 3").1.contains("write 192.0.2.0/24"));
+        for length in ["33", "+8", "", "x", "256"] {
+            assert!(wrong(&format!("10.0.0.0/{length} 3")).1.contains("from /0 to /32"), "{length}");
+        }
         assert!(Users::from_word("/no/such/file").expect_err("no file").contains("/no/such/file"));
+    }
+
+    #[test]
+    fn a_reload_that_fails_changes_nothing() {
+        let path = std::env::temp_dir().join(format!("relayd-test-{}-users", std::process::id()));
+        fs::write(&path, "192.0.2.7 3\n").expect("it is written");
+        let mut users = Users::from_word(path.to_str().expect("text")).expect("a good file");
+        fs::write(&path, "192.0.2.7 4\n192.0.2.8 x\n").expect("it is written");
+        assert!(users.reload().expect_err("it is bad").contains("line 2"));
+        assert_eq!(users.of(at("192.0.2.7:5")), 3);
+        fs::write(&path, "192.0.2.7 4\n").expect("it is written");
+        users.reload().expect("a good file");
+        assert_eq!(users.of(at("192.0.2.7:5")), 4);
+        fs::remove_file(&path).expect("it is removed");
     }
 }

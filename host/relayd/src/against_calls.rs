@@ -1,0 +1,233 @@
+//! The daemon's own tables held against the proved program: tests that need it (CALLS=PATH cargo test -- --ignored).
+
+use crate::admission::{garbage, garbage_from_peer};
+use crate::ledger::{Ledger, place};
+use crate::line::{self, Answer};
+use crate::pipe::is_accepted;
+use crate::stun::{self, CHANNEL_NUMBER, LIFETIME, REQUESTED_TRANSPORT, XOR_PEER_ADDRESS, ipv4_value};
+use crate::{rebuild, relayed};
+use std::io::Write;
+use std::net::{SocketAddr, SocketAddrV4};
+use std::process::{Command, Stdio};
+
+/// What `calls` answers to these lines, and its listing.
+fn ask(input: &[u8]) -> (Vec<String>, Vec<String>) {
+    let calls = std::env::var_os("CALLS").expect("CALLS names the proved program");
+    let mut child = (Command::new(calls).stdin(Stdio::piped()).stdout(Stdio::piped()).spawn()).expect("calls runs");
+    let mut to = child.stdin.take().expect("its input");
+    let text = std::thread::scope(|scope| {
+        // A scope of its own: the program hears the end of its input when `to` is gone.
+        scope.spawn(move || to.write_all(input).expect("the lines are written"));
+        String::from_utf8(child.wait_with_output().expect("it ends").stdout).expect("text")
+    });
+    let count = input.split(|&byte| byte == b'\n').count() - 1;
+    let mut lines = text.lines().map(String::from);
+    (lines.by_ref().take(count).collect(), lines.collect())
+}
+
+/// A number below `end`, from a sequence that the seed fixes.
+fn below(seed: &mut u64, end: u64) -> u64 {
+    *seed ^= *seed << 13;
+    *seed ^= *seed >> 7;
+    *seed ^= *seed << 17;
+    *seed % end
+}
+
+/// A small number, of any type.
+fn small<T: TryFrom<u64>>(seed: &mut u64, end: u64) -> T {
+    T::try_from(below(seed, end)).ok().expect("it fits")
+}
+
+/// A request of any kind by one of few clients, about few peers and channels, so that all limits are met; some are spoiled.
+fn any_request(seed: &mut u64, clients: u64) -> (SocketAddr, u32, Vec<u8>) {
+    let port: u16 = small(seed, clients);
+    let client = if port % 5 == 4 {
+        SocketAddr::from(([0xfd00, 0, 0, 0, 0, 0, 0, 1], port))
+    } else {
+        SocketAddr::from(([198, 51, 100, 7], port))
+    };
+    let mut peer = || ipv4_value(SocketAddrV4::new([192, 0, 2, small(seed, 10)].into(), small(seed, 2)));
+    let (first, second) = (peer(), peer());
+    let long = small::<u32>(seed, 5000).to_be_bytes();
+    let short = (small::<u32>(seed, 2) * 600).to_be_bytes();
+    let channel = [0x40, small(seed, 10), 0, 0];
+    let (one, two) = ((XOR_PEER_ADDRESS, &first[..]), (XOR_PEER_ADDRESS, &second[..]));
+    let mut request = match below(seed, 10) {
+        0 | 1 => stun::request(stun::ALLOCATE, &[(REQUESTED_TRANSPORT, &[17, 0, 0, 0]), (LIFETIME, &long)]),
+        2 => stun::request(stun::REFRESH, &[(LIFETIME, &long), (LIFETIME, &short)]),
+        3 => stun::request(stun::REFRESH, &[(LIFETIME, &short)]),
+        4..=6 => stun::request(
+            stun::CREATE_PERMISSION,
+            [&[one][..], &[one, (0x0008, &[0; 20]), two]][small::<usize>(seed, 2)],
+        ),
+        7 => stun::request(stun::CREATE_PERMISSION, &[one, two]),
+        _ => stun::request(
+            stun::CHANNEL_BIND,
+            &[two, (CHANNEL_NUMBER, &channel), one, (CHANNEL_NUMBER, &[0x4f; 4])],
+        ),
+    };
+    if below(seed, 20) == 0 {
+        let at: usize = small(seed, request.len() as u64);
+        request[at] ^= 1 << below(seed, 8);
+    }
+    (client, u32::from(port % 2) + 1, request)
+}
+
+/// The ledger as the rows of a listing, by owner in place of slot, in order.
+fn rows_of(ledger: &Ledger) -> Vec<String> {
+    let mut rows = Vec::new();
+    for allocation in ledger.allocations() {
+        let (client, port) = (hex_address(allocation.client), allocation.client.port());
+        let owner = format!("{client} {port}");
+        let (user, relay_port, expiry) = (allocation.user, allocation.relay_port, allocation.expiry);
+        rows.push(format!("{owner} A {user} {client} {port} cb007105 3478 {relay_port} {expiry}"));
+        for (host, expiry) in &allocation.permissions {
+            rows.push(format!("{owner} P {} {expiry}", hex_address((*host, 0).into())));
+        }
+        for (number, (peer, expiry)) in &allocation.channels {
+            rows.push(format!(
+                "{owner} C {number} {} {} {expiry}",
+                hex_address((*peer).into()),
+                peer.port()
+            ));
+        }
+    }
+    rows.sort();
+    rows
+}
+
+fn hex_address(address: SocketAddr) -> String {
+    let mut text = Vec::new();
+    match address {
+        SocketAddr::V4(address) => line::put_hex(&mut text, &address.ip().octets()),
+        SocketAddr::V6(address) => line::put_hex(&mut text, &address.ip().octets()),
+    }
+    String::from_utf8(text).expect("text")
+}
+
+/// A listing in the same form.
+fn by_owner(listing: &[String]) -> Vec<String> {
+    let mut owner = String::new();
+    let mut rows = Vec::new();
+    for row in listing {
+        let fields: Vec<&str> = row.split('\t').collect();
+        if fields[0] == "A" {
+            owner = fields[3..5].join(" ");
+        }
+        rows.push(format!("{owner} {} {}", fields[0], fields[2..].join(" ")));
+    }
+    rows.sort();
+    rows
+}
+
+/// A line that changes nothing but the time: a datagram to a port that is nobody's.
+fn tick(now: u64) -> Vec<u8> {
+    let mut line = Vec::new();
+    line::peer(&mut line, now, SocketAddr::from(([0, 0, 0, 0], 0)), 0, b"");
+    line
+}
+
+/// What one run of requests has met.
+#[derive(Default)]
+struct Met {
+    quota: usize,
+    no_room: usize,
+    accepted: usize,
+}
+
+/// A ledger beside a whole history, and the same as it is rebuilt again and again.
+fn history(first: u64, met: &mut Met) {
+    let (mut seed, clients) = (first, if first % 2 == 0 { 3 } else { 24 });
+    let (mut now, mut whole, mut ledger) = (below(&mut seed, 900), Vec::new(), Ledger::new());
+    for _ in 0..12 {
+        let mut asked = Vec::new();
+        let before = whole.len();
+        for _ in 0..60 {
+            now += [0, 0, 0, 1, 3, 10, 20][small::<usize>(&mut seed, 7)];
+            let (client, user, request) = any_request(&mut seed, clients);
+            line::client(&mut whole, now, user, small(&mut seed, 65536), client, &request);
+            asked.push((now, client, user, request));
+        }
+        let skip = whole[..before].split(|&byte| byte == b'\n').count() - 1;
+        let (answers, _) = ask(&whole);
+        for ((time, client, user, request), answer) in asked.iter().zip(&answers[skip..]) {
+            ledger.lapse(*time);
+            if is_accepted(answer.as_bytes()) {
+                let mut reply = Vec::new();
+                line::read(answer.as_bytes(), &mut reply).expect("an answer");
+                relayed::translate(&mut reply, std::net::Ipv4Addr::LOCALHOST);
+                ledger.record(*time, *user, *client, request, &reply).expect("it changes something");
+                met.accepted += 1;
+            }
+            met.quota += usize::from(answer.ends_with("0009000400000456"));
+            met.no_room += usize::from(answer.ends_with("0009000400000508"));
+        }
+        ledger.lapse(now);
+        whole.extend(tick(now));
+        let (_, listing) = ask(&whole);
+        assert_eq!(rows_of(&ledger), by_owner(&listing), "from {first}, at {now}");
+        let (table, count) = rebuild::lines(&ledger, now);
+        let (again, rebuilt) = ask(&[table, tick(now)].concat());
+        let accepted = again.iter().filter(|answer| is_accepted(answer.as_bytes())).count();
+        assert_eq!(accepted, count, "from {first}, at {now}");
+        assert_eq!(by_owner(&rebuilt), by_owner(&listing), "from {first}, at {now}");
+    }
+}
+
+#[test]
+#[ignore = "needs the proved program: CALLS=PATH cargo test -- --ignored"]
+fn the_ledger_has_what_calls_lists_and_makes_it_again() {
+    let mut met = Met::default();
+    for first in 1..=60 {
+        history(first, &mut met);
+    }
+    assert!(
+        met.quota > 100 && met.no_room > 100 && met.accepted > 10_000,
+        "{} {} {}",
+        met.quota,
+        met.no_room,
+        met.accepted
+    );
+}
+
+#[test]
+#[ignore = "needs the proved program: CALLS=PATH cargo test -- --ignored"]
+fn what_is_garbage_here_is_dropped_or_refused_there() {
+    let client = SocketAddr::from(([198, 51, 100, 7], 40000));
+    // The client has an allocation and a permission, so that what is not garbage can get through.
+    let allocate = stun::request(stun::ALLOCATE, &[(REQUESTED_TRANSPORT, &[17, 0, 0, 0])]);
+    let permit = stun::request(
+        stun::CREATE_PERMISSION,
+        &[(XOR_PEER_ADDRESS, &ipv4_value(SocketAddrV4::new([192, 0, 2, 150].into(), 0)))],
+    );
+    let mut lines = Vec::new();
+    line::client(&mut lines, 0, 1, 0, client, &allocate);
+    line::client(&mut lines, 0, 1, 0, client, &permit);
+    let mut tried = 2;
+    for length in [0, 1, 4, 20, 36, 1500, 1501, 1584, 1600, 9000] {
+        for byte in 0..=255 {
+            let mut datagram = allocate.clone();
+            datagram.resize(length, 0);
+            datagram.iter_mut().take(1).for_each(|first| *first = byte);
+            if garbage(&datagram, length).is_some() {
+                line::client(&mut lines, 0, 1, 0, client, &datagram);
+                tried += 1;
+            }
+        }
+    }
+    let peer = SocketAddr::from(([192, 0, 2, 150], 5000));
+    for length in [1501, 1600, 9000] {
+        assert!(garbage_from_peer(length).is_some());
+        line::peer(&mut lines, 0, peer, 49152, &vec![0; length]);
+    }
+    line::peer(&mut lines, 0, peer, 49152, &[0; 1500]);
+    assert_eq!(place(49152), 0);
+    let (answers, _) = ask(&lines);
+    assert_eq!(answers.len(), tried + 4);
+    assert!(tried > 2000 && is_accepted(answers[0].as_bytes()) && is_accepted(answers[1].as_bytes()));
+    assert!(answers[tried + 3].starts_with("S\t"), "a peer's 1,500 bytes come through");
+    for answer in &answers[2..tried + 3] {
+        let read = line::read(answer.as_bytes(), &mut Vec::new()).expect("an answer");
+        assert!(matches!(read, Answer::Dropped | Answer::Refused(4) | Answer::NotTaken), "{answer}");
+    }
+}

@@ -1,0 +1,120 @@
+//! What relayd counts beside the allocations' own packets.
+
+use crate::ledger::Flow;
+use std::collections::BTreeMap;
+
+/// Why a datagram that came in went nowhere, or a reply did not go out.
+#[derive(Clone, Copy, Debug, PartialEq, Eq)]
+pub enum Cause {
+    /// Its first byte is that of neither STUN nor `ChannelData`.
+    Senseless,
+    /// It has over 1,500 bytes.
+    TooLong,
+    /// Its source is an address of Teredo or 6to4.
+    Tunnelled,
+    /// Its source has had its answers of this second, and no right credentials.
+    Slowed,
+    /// The relay dropped what a client sent.
+    Client,
+    /// The relay dropped what a peer sent.
+    Peer,
+    /// The relay refused the call.
+    Refused,
+    /// The program failed at it.
+    Lost,
+    /// It could not be sent on.
+    NotSent,
+    /// A socket gave an error in its place.
+    NotReceived,
+}
+
+impl Cause {
+    /// Each, in the order of the status.
+    pub const ALL: [Cause; 10] = [
+        Cause::Senseless,
+        Cause::TooLong,
+        Cause::Tunnelled,
+        Cause::Slowed,
+        Cause::Client,
+        Cause::Peer,
+        Cause::Refused,
+        Cause::Lost,
+        Cause::NotSent,
+        Cause::NotReceived,
+    ];
+
+    /// For people.
+    pub fn text(self) -> &'static str {
+        match self {
+            Cause::Senseless => "neither STUN nor ChannelData",
+            Cause::TooLong => "over 1,500 bytes",
+            Cause::Tunnelled => "sent from Teredo or 6to4 addresses",
+            Cause::Slowed => "without right credentials, too many a second from one address",
+            Cause::Client => "from clients: malformed, or no allocation, permission or channel",
+            Cause::Peer => "from peers: no permission",
+            Cause::Refused => "refused by the relay",
+            Cause::Lost => "lost with the relay's program",
+            Cause::NotSent => "could not be sent",
+            Cause::NotReceived => "socket errors",
+        }
+    }
+
+    /// For Prometheus.
+    pub fn label(self) -> &'static str {
+        match self {
+            Cause::Senseless => "senseless",
+            Cause::TooLong => "too_long",
+            Cause::Tunnelled => "tunnelled",
+            Cause::Slowed => "slowed",
+            Cause::Client => "client",
+            Cause::Peer => "peer",
+            Cause::Refused => "refused",
+            Cause::Lost => "lost",
+            Cause::NotSent => "not_sent",
+            Cause::NotReceived => "not_received",
+        }
+    }
+}
+
+/// All counts since the start.
+#[derive(Default)]
+pub struct Counters {
+    drops: [u64; Cause::ALL.len()],
+    /// Data of clients that went to peers.
+    pub to_peers: Flow,
+    /// Data of peers that went to clients.
+    pub to_clients: Flow,
+    /// Requests that were accepted.
+    pub accepted: u64,
+    /// Error responses, by method and code.
+    pub refusals: BTreeMap<(u16, u16), u64>,
+}
+
+impl Counters {
+    /// One more of this cause.
+    pub fn drop(&mut self, cause: Cause) {
+        self.drops[cause as usize] += 1;
+    }
+
+    /// How many of this cause.
+    pub fn dropped(&self, cause: Cause) -> u64 {
+        self.drops[cause as usize]
+    }
+}
+
+#[cfg(test)]
+mod tests {
+    use super::*;
+
+    #[test]
+    fn each_cause_has_its_own_count() {
+        let mut counters = Counters::default();
+        for (times, cause) in Cause::ALL.iter().enumerate() {
+            for _ in 0..times {
+                counters.drop(*cause);
+            }
+        }
+        let counts: Vec<u64> = Cause::ALL.iter().map(|cause| counters.dropped(*cause)).collect();
+        assert_eq!(counts, (0..10).collect::<Vec<u64>>());
+    }
+}
