@@ -144,9 +144,11 @@ def case_bad_arguments(lab):
     "bad arguments, and files that can't be read or written: a clear message and status 2"
     bad = lab.folder / "bad-users"
     bad.write_text("198.51.100.7\n")
-    nowhere = "/no/such/folder/file"
+    nowhere, pipe = "/no/such/folder/file", lab.folder / "pipe"
+    os.mkfifo(pipe)
     for options, word in ((["--relay", "::1"], "--relay"), (["--frob"], "--frob"), (["--log", nowhere], nowhere), (["--listen"], "needs a value"),
-                          (["--status", nowhere], nowhere), (["--metrics", nowhere], nowhere), (["--clock-offset=+5"], "+5")):
+                          (["--status", nowhere], nowhere), (["--metrics", nowhere], nowhere), (["--clock-offset=+5"], "+5"),
+                          (["--status", "/dev/null"], "not a file"), (["--log", pipe], str(pipe))):
         done = lab.run("relay", *lab.relayd_command(*options), timeout=10)
         assert done.returncode == 2 and word in done.stderr, done
     for user, word in (("33", "33"), ("/no/such/users", "/no/such/users"), (str(bad), "line 1"), ("+3", "+3")):

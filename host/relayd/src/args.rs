@@ -19,7 +19,7 @@ relayd: the proved TURN relay on UDP sockets
   --allow-local-peers     lets clients have peers on this host's loopback and on link-local addresses, as they may
                           where the relay's own address is on loopback
   --log FILE              allocations, permissions and channels, and refusals with why; - is standard error
-  --log-packets           each datagram and what became of it, too
+  --log-packets           each datagram that the kernel lets in, and what became of it, too
   --status FILE           what is live, for people: written every 5 seconds and on SIGUSR1; without it, SIGUSR1
                           writes to standard output
   --metrics FILE          the same for Prometheus

@@ -5,6 +5,7 @@ use crate::sys::options::takes_output;
 use std::fs::File;
 use std::io::{self, ErrorKind, Write};
 use std::os::fd::{AsFd, OwnedFd};
+use std::os::unix::fs::OpenOptionsExt;
 use std::path::Path;
 use std::sync::{Mutex, PoisonError};
 
@@ -12,6 +13,8 @@ use std::sync::{Mutex, PoisonError};
 const HELD: usize = 1 << 18;
 /// A pipe that is ready takes so much without waiting.
 const AT_ONCE: usize = 4096;
+/// `O_NONBLOCK`.
+const NEVER_WAIT: i32 = 0o4000;
 
 /// A file, a pipe or a terminal, and what is still to be written to it.
 pub struct Output {
@@ -30,9 +33,11 @@ impl Output {
         }
     }
 
-    /// To the end of a file.
+    /// To the end of a file. A named pipe that nobody reads is an error and no wait.
     pub fn append(path: &Path) -> io::Result<Self> {
-        File::options().create(true).append(true).open(path).map(Output::to)
+        let mut options = File::options();
+        options.create(true).append(true).custom_flags(NEVER_WAIT);
+        options.open(path).map(Output::to)
     }
 
     /// To standard output or standard error.

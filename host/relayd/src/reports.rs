@@ -64,6 +64,10 @@ fn replace(path: &Path, text: &str) -> Result<(), String> {
     name.push(format!(".{}.new", std::process::id()));
     let new = path.with_file_name(name);
     let write = || {
+        // A device, a named pipe or a link is left alone: the rename would put a file in its place.
+        if fs::symlink_metadata(path).is_ok_and(|there| !there.is_file()) {
+            return Err(io::Error::other("it is there, and it is not a file"));
+        }
         let _ = fs::remove_file(&new);
         File::options()
             .write(true)
@@ -94,6 +98,11 @@ mod tests {
         assert!(!elsewhere.exists());
         let left: Vec<_> = fs::read_dir(&folder).expect("the folder").collect();
         assert_eq!(left.len(), 1);
+        let link = folder.join("link");
+        std::os::unix::fs::symlink("/dev/null", &link).expect("a link");
+        for path in [&link, &folder] {
+            assert!(replace(path, "one\n").expect_err("it is no file").contains("not a file"));
+        }
         fs::remove_dir_all(&folder).expect("it is removed");
         let why = replace(&path, "one\n").expect_err("the folder is gone");
         assert!(why.contains("status"), "{why}");

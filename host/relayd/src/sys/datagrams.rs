@@ -122,6 +122,8 @@ pub struct Inbox {
     names: Vec<Name>,
     taken: usize,
     received: Vec<Received>,
+    /// How many are asked for at once: where one came, it is not worth while to make ready for a whole batch.
+    expected: usize,
 }
 
 impl Inbox {
@@ -132,6 +134,7 @@ impl Inbox {
             names: vec![Name::default(); BATCH],
             taken: 0,
             received: Vec::with_capacity(BATCH),
+            expected: BATCH,
         }
     }
 
@@ -159,13 +162,14 @@ impl Inbox {
     /// Takes what is at the socket, as far as there is room.
     pub fn receive(&mut self, socket: &impl AsRawFd, door: usize) -> io::Result<()> {
         let begin = self.taken;
-        let mut parts: Vec<Part> = (self.room[begin..].iter_mut())
+        let end = BATCH.min(begin + self.expected);
+        let mut parts: Vec<Part> = (self.room[begin..end].iter_mut())
             .map(|room| Part {
                 base: room.as_mut_ptr().cast(),
                 length: ROOM,
             })
             .collect();
-        let mut headers: Vec<Header> = (self.names[begin..].iter_mut().zip(&mut parts))
+        let mut headers: Vec<Header> = (self.names[begin..end].iter_mut().zip(&mut parts))
             .map(|(name, part)| header(name, 28, part))
             .collect();
         let count = c_uint::try_from(headers.len()).unwrap_or(0);
@@ -178,6 +182,7 @@ impl Inbox {
         };
         let lengths: Vec<u32> = headers[..taken].iter().map(|header| header.length).collect();
         self.taken += taken;
+        self.expected = (2 * taken).clamp(4, BATCH);
         for (place, length) in (begin..).zip(lengths) {
             if let Some(from) = self.names[place].address() {
                 let length = usize::try_from(length).unwrap_or(ROOM);
@@ -265,5 +270,25 @@ mod tests {
         inbox.clear();
         inbox.receive(&to, 0).expect("the last comes");
         assert_eq!(inbox.received().len(), 1);
+    }
+
+    #[test]
+    fn no_datagram_is_left_where_more_come_than_last_time() {
+        let to = UdpSocket::bind("127.0.0.1:0").expect("a socket");
+        let from = UdpSocket::bind("127.0.0.1:0").expect("a socket");
+        let mut inbox = Inbox::new();
+        for burst in [1u8, 30] {
+            for place in 0..burst {
+                from.send_to(&[place], to.local_addr().expect("its address")).expect("it is sent");
+            }
+            inbox.clear();
+            while inbox.received().len() < usize::from(burst) {
+                let before = inbox.received().len();
+                inbox.receive(&to, 0).expect("some come");
+                assert!(inbox.received().len() > before);
+            }
+            let places: Vec<u8> = inbox.received().iter().map(|received| inbox.bytes(received)[0]).collect();
+            assert_eq!(places, (0..burst).collect::<Vec<_>>());
+        }
     }
 }
