@@ -19,7 +19,7 @@ def public_names(path):
     names = []
     for line in open(path):
         passed = re.match(r'(?:unfoldable )?pub use .*?\{(.*)\}', line)
-        declared = re.match(r'\s*(?:abbrev )?pub (?:record )?([^\s:(]+)', line)
+        declared = re.match(r'\s*(?:abbrev |unfoldable )?pub (?:record )?([^\s:(]+)', line)
         if passed:
             names += [name.split(' as ')[-1] for name in passed.group(1).split(', ')]
         elif declared and not line.startswith('pub use'):

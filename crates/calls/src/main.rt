@@ -5,6 +5,8 @@ use libc::STDIN_FILENO;
 use libc::STDOUT_FILENO;
 use listing::Listed;
 use listing::list;
+use relay::state::Bookkeeping;
+use relay::state::fresh_bookkeeping;
 use script::run_line;
 use table::Slot;
 use table::fresh_slot;
@@ -147,7 +149,7 @@ fn written(output: &[u8], n: usize, window: Window) -> Window {
 // Reads the next line and answers it.
 fn answer_next(
     slots: &mut [Slot],
-    clock: &mut u64,
+    bookkeeping: &mut Bookkeeping,
     input: &mut [u8],
     output: &mut [u8],
     last: Window,
@@ -158,7 +160,7 @@ fn answer_next(
     }
     let size = run_line(
         slots,
-        clock,
+        bookkeeping,
         input,
         line_start(window),
         line_end(window),
@@ -176,11 +178,16 @@ fn turns_after(turns: u64, window: Window) -> u64
 }
 
 // Answers every line; whether the input came to its end with every answer written.
-fn serve(slots: &mut [Slot], clock: &mut u64, input: &mut [u8], output: &mut [u8]) -> bool {
+fn serve(
+    slots: &mut [Slot],
+    bookkeeping: &mut Bookkeeping,
+    input: &mut [u8],
+    output: &mut [u8],
+) -> bool {
     let mut window = first_window();
     let mut turns = u64::MAX;
     while 0 < turns {
-        window = answer_next(slots, clock, input, output, window);
+        window = answer_next(slots, bookkeeping, input, output, window);
         let left = turns_after(turns, window);
         turns = left;
     }
@@ -208,9 +215,9 @@ fn write_listing(slots: &[Slot], clock: u64, is_served: bool) {
 fn main() {
     let slot = fresh_slot();
     let mut slots = [slot; 64];
-    let mut clock: u64 = 0;
+    let mut bookkeeping = fresh_bookkeeping();
     let mut input = [0u8; 65536];
     let mut output = [0u8; 4096];
-    let is_served = serve(&mut slots, &mut clock, &mut input, &mut output);
-    write_listing(&slots, clock, is_served);
+    let is_served = serve(&mut slots, &mut bookkeeping, &mut input, &mut output);
+    write_listing(&slots, bookkeeping.clock, is_served);
 }

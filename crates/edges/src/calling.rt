@@ -19,10 +19,11 @@ use address::FiveTuple;
 use address::Peer;
 use address::TransactionId;
 use relay::Held;
-use relay::calls::Call;
-use relay::calls::call_of_client;
-use relay::calls::call_of_peer;
 use relay::held_datagram;
+use relay::incoming::Call;
+use relay::incoming::call_of_client;
+use relay::incoming::call_of_peer;
+use relay::state::Bookkeeping;
 use rules::answer::Outcome;
 use table::fresh_slot;
 
@@ -100,7 +101,8 @@ fn write_case<'a>(line: &[u8], after: Held, datagram: &'a [u8], reply: &'a [u8])
     write_name(line);
     write_byte(b' ');
     write_outcome(outcome, datagram, reply);
-    write_number(b", clock ", after.clock);
+    let kept = after.bookkeeping;
+    write_number(b", clock ", kept.clock);
     if !is_untouched(reply, written(outcome)) {
         write(b", the rest of the reply has changed");
     }
@@ -108,25 +110,32 @@ fn write_case<'a>(line: &[u8], after: Held, datagram: &'a [u8], reply: &'a [u8])
 }
 
 // The entry over a fresh table that has not 64 slots.
-fn over_others(clock: u64, slots: usize, call: Call, datagram: &[u8], reply: &mut [u8]) -> Outcome {
+fn over_others(
+    kept: Bookkeeping,
+    slots: usize,
+    call: Call,
+    datagram: &[u8],
+    reply: &mut [u8],
+) -> Outcome {
     if slots == 63 {
         let table = [fresh_slot(); 63];
-        return sixty_three(table, clock, call, datagram, reply);
+        return sixty_three(table, kept, call, datagram, reply);
     }
     let table = [fresh_slot(); 65];
-    sixty_five(table, clock, call, datagram, reply)
+    sixty_five(table, kept, call, datagram, reply)
 }
 
 // The entry over the table, or where the setting says 63 or 65 slots, over a fresh one of so many.
 fn answered(held: Held, slots: usize, call: Call, datagram: &[u8], reply: &mut [u8]) -> Held {
     let table = held.slots;
+    let bookkeeping = held.bookkeeping;
     if slots == 64 {
-        return held_datagram(table, held.clock, call, datagram, reply);
+        return held_datagram(table, bookkeeping, call, datagram, reply);
     }
-    let outcome = over_others(held.clock, slots, call, datagram, reply);
+    let outcome = over_others(bookkeeping, slots, call, datagram, reply);
     Held {
         slots: table,
-        clock: held.clock,
+        bookkeeping,
         outcome,
     }
 }

@@ -15,7 +15,8 @@ use table::fresh_slot;
 
 // The entry over the table, or where the setting says 63 slots, over a fresh one of so many.
 fn listed(held: Held, slots: usize, output: &mut [u8]) -> Listed {
-    let clock = held.clock;
+    let kept = held.bookkeeping;
+    let clock = kept.clock;
     if slots == 64 {
         let table = held.slots;
         return list_held(table, clock, output);

@@ -8,6 +8,8 @@ use address::Address;
 use address::FiveTuple;
 use address::Peer;
 use relay::Held;
+use relay::state::Bookkeeping;
+use relay::state::fresh_bookkeeping;
 use rules::answer::Outcome;
 use table::Allocation;
 use table::Channel;
@@ -20,10 +22,11 @@ use table::with_permissions;
 
 pub(crate) fn empty() -> Held {
     let slots = [fresh_slot(); 64];
+    let bookkeeping = fresh_bookkeeping();
     let outcome = Outcome::Dropped;
     Held {
         slots,
-        clock: 0,
+        bookkeeping,
         outcome,
     }
 }
@@ -31,7 +34,8 @@ pub(crate) fn empty() -> Held {
 // The table with another clock.
 fn at_clock(held: Held, clock: u64) -> Held {
     let mut made = held;
-    made.clock = clock;
+    let bookkeeping = Bookkeeping { clock };
+    made.bookkeeping = bookkeeping;
     made
 }
 

@@ -9,7 +9,8 @@ use Rattle.address.specs.declared.Address.the-variants.{V4}
 use Rattle.address.specs.declared.FiveTuple.{FiveTuple}
 use Rattle.rules.specs.declared.answer.Outcome.the-variants.{Refused, Dropped, ToClient}
 use Rattle.history.specs.Counted.{Counted, allowed}
-use Rattle.history.specs.Events.{Arrival, empty, outcome, run, events, counted}
+use Rattle.relay.specs.State.{empty}
+use Rattle.history.specs.Events.{Arrival, outcome, run, events, counted}
 use Rattle.history.specs.Statement.{GoesTo, FromIpv4}
 use Rattle.history.proofs.Demand.{demand-3}
 use Rattle.history.proofs.Own.{about, goes-alike}

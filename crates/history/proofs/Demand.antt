@@ -7,7 +7,8 @@ use Rattle.address.specs.declared.Address.{Address}
 use Rattle.address.specs.declared.Address.the-variants.{V4}
 use Rattle.address.specs.declared.FiveTuple.{FiveTuple}
 use Rattle.history.specs.Counted.{Counted, gave, kept, allowed}
-use Rattle.history.specs.Events.{Arrival, State, empty, run, Event, events, counted}
+use Rattle.relay.specs.State.{State, empty}
+use Rattle.history.specs.Events.{Arrival, run, Event, events, counted}
 use Rattle.history.specs.Statement.{FromAllocate, FromRefresh, Permitted, GoesTo, Demand3}
 use Rattle.history.proofs.Readings.{Again, Delivers}
 use Rattle.history.proofs.Whole.{after, history, apart, delivery, nobody}

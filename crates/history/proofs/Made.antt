@@ -10,44 +10,39 @@ use lib.Dec.{eqb}
 use lib.ListN.{length, set}
 use lib.Seq.{getD-set-same, getD-set-other}
 use borrow.Author.Tests.{eqb-true, eqb-false}
-use Rattle.wire.specs.Wire.{num}
 use Rattle.choice.specs.Choice.{pick}
 use Rattle.address.specs.declared.Address.{Address}
 use Rattle.address.specs.declared.FiveTuple.{FiveTuple}
 use Rattle.address.specs.declared.Peer.{Peer as Transport}
-use Rattle.stun.specs.declared.kinds.Class.{Class}
-use Rattle.stun.specs.declared.kinds.Class.the-variants.{Stun, ChannelData, Neither}
 use Rattle.stun.specs.declared.kinds.Method.{Method}
-use Rattle.stun.specs.declared.kinds.Method.the-variants.{Allocate, Refresh, CreatePermission, ChannelBind}
-use Rattle.stun.specs.declared.kinds.MessageKind.{MessageKind}
-use Rattle.stun.specs.declared.kinds.MessageKind.the-variants.{Request, Success, Error, SendIndication, DataIndication, Other}
 use Rattle.stun.specs.declared.message.Found.{Found as Place}
 use Rattle.stun.specs.declared.message.Found.the-variants.{Value, Absent}
 use Rattle.stun.specs.declared.channel_data.ChannelMessage.{ChannelMessage}
 use Rattle.stun.specs.declared.channel_data.ChannelMessage.the-variants.{Data, Malformed}
-use Rattle.stun.specs.Kinds.{messageKindOf}
-use Rattle.stun.specs.Message.{attributes, firstOf, sorted, wellFormed, channelDataOf}
+use Rattle.stun.specs.AttributeNumbers as attribute
+use Rattle.stun.specs.Message.{attributes, firstOf, channelDataOf}
 use Rattle.stun.specs.Values.{peers, firstPeer}
 use Rattle.table.specs.declared.Slot.{Slot}
 use Rattle.table.specs.declared.Found.{Found}
 use Rattle.table.specs.declared.Found.the-variants.{At, Nothing}
 use Rattle.table.specs.Search.{find, has, atOr}
 use Rattle.table.specs.Table.{freshSlot, freshChannel, holds, numbered}
-use Rattle.slots.specs.Slots.{slotAt, inSlot, keyed, lapsed}
+use Rattle.slots.specs.Slots.{slotAt, inSlot, lapsed}
 use Rattle.rules.specs.declared.requests.ClientCall.{ClientCall}
 use Rattle.rules.specs.Act.{Out, dropped, toClient, toPeer, Change, keep, write, outOf, errorMessage, respond}
 use Rattle.rules.specs.Act as rules
 use Rattle.rules.specs.Values.{lifetime, channelNumber, numberOf, granted, grantedRefresh, anyUnknown, malformedPeer, ipv6Peer}
 use Rattle.rules.specs.Requests.{allocated, allocate, renewed, refreshed, refresh, permitAll, createPermission, bound, channelBind}
 use Rattle.rules.specs.Data.{permitted, sentFrom, send, channelledFrom, channelled}
-use Rattle.rules.specs.Client.{requested, ofKind, ofClass, owned}
+use Rattle.rules.specs.declared.client.Asked.{Asked}
+use Rattle.rules.specs.declared.client.Asked.the-variants as Asked
 use Rattle.rules.proofs.Accepted.{allocates, refreshes, permits, binds, granted-range, granted-refresh-range}
-use Rattle.rules.proofs.Written.{Requested, owned-writes}
-use Rattle.relay.specs.declared.calls.Call.{Call}
-use Rattle.relay.specs.declared.calls.Call.the-variants.{Client, Peer}
-use Rattle.relay.specs.declared.calls.FromClient.{FromClient}
-use Rattle.relay.specs.Step as step
-use Rattle.relay.specs.Step.{Act, refuse, stay, put, outcomeOf, replyAfter, slotsAfter, place, ifFound, placeOf, lowest, asRules, surveyOf, allocateAct, foundAct, acceptedAct, onFound}
+use Rattle.relay.specs.declared.incoming.Call.{Call}
+use Rattle.relay.specs.declared.incoming.Call.the-variants.{Client, Peer}
+use Rattle.relay.specs.declared.incoming.FromClient.{FromClient}
+use Rattle.relay.specs.State.{State, withSlots}
+use Rattle.relay.specs.Outcomes.{Act, accept, outcomeOf, replyAfter, stateAfter}
+use Rattle.relay.specs.Step.{asRules, surveyOf, onAsked, done}
 use Rattle.client_reader.specs.Fields.{Bytes}
 use Rattle.history.specs.Counted.{Counted, nothing, gave, kept, allowed}
 use Rattle.history.specs.Events.{CallFits, countsBy}
@@ -90,24 +85,28 @@ pick-unaccepted : (b : Bool) (out : Out) → Unaccepted out → Unaccepted (pick
 pick-unaccepted true out u = dropped-unaccepted
 pick-unaccepted false out u = u
 
-module _ (call : FromClient) (l : List Slot) (s reply : List ℕ) (full : length l ≡ 64) (fits : CallFits (Client call)) (bytes : Bytes s) where
+module _ (call : FromClient) (st : State) (s reply : List ℕ) (full : length (st .slots) ≡ 64) (fits : CallFits (Client call)) (bytes : Bytes s) where
+  abbrev l : List Slot
+  l = st .slots
+
   -- what an act does to the table, and what it counts as
   abbrev pub Made : Act → Type 0
-  Made x = table.Change (call .time) (slotAt l) (slotAt (slotsAfter l x)) (countsBy (Client call) s (outcomeOf x) (replyAfter reply x))
+  Made x = table.Change (call .time) (slotAt l) (slotAt (stateAfter st x .slots)) (countsBy (Client call) s (outcomeOf x) (replyAfter reply x))
 
-  made-stay : (out : Out) → Unaccepted out → Made (stay out)
+  -- a slot of the table is written
+  abbrev put : ℕ → Slot → Out → Act
+  put k slot out = accept (withSlots (set l k slot) st) out
+
+  made-stay : (out : Out) → Unaccepted out → Made (accept st out)
   made-stay out u = rw (u .counts call s reply) (quiet (call .time) (slotAt l))
 
-  made-place : (k : ℕ) (change : Change) → Keeps change → ((slot : Slot) (out : Out) → change ≡ write slot out → Made (put k slot out)) → Made (place k change)
-  made-place k (keep out) q f = made-stay out (q .quietly out refl)
-  made-place k (write slot out) q f = f slot out refl
-
   -- where no slot was found nothing is written
-  made-lowest : (found : Found) (change : Change) → Keeps change → ((slot : Slot) (out : Out) → change ≡ write slot out → has found ≡ true)
-      → ((k : ℕ) → found ≡ At k → (slot : Slot) (out : Out) → change ≡ write slot out → Made (put k slot out)) → Made (lowest found change)
-  made-lowest (At k) change q h f = made-place k change q (f k refl)
-  made-lowest Nothing (keep out) q h f = made-stay out (q .quietly out refl)
-  made-lowest Nothing (write slot out) q h f = absurd (false≢true (h slot out refl))
+  made-done : (found : Found) (change : Change) → Keeps change → ((slot : Slot) (out : Out) → change ≡ write slot out → has found ≡ true)
+      → ((k : ℕ) → found ≡ At k → (slot : Slot) (out : Out) → change ≡ write slot out → Made (put k slot out)) → Made (done st found change)
+  made-done (At k) (keep out) q h f = made-stay out (q .quietly out refl)
+  made-done (At k) (write slot out) q h f = f k refl slot out refl
+  made-done Nothing (keep out) q h f = made-stay out (q .quietly out refl)
+  made-done Nothing (write slot out) q h f = absurd (false≢true (h slot out refl))
 
   put-frame : (k : ℕ) (slot : Slot) → Frame (call .time) k (slotAt l) (slotAt (set l k slot))
   put-frame k slot = record { before = λ i ne x. getD-set-other l k i slot freshSlot ne; after = λ i ne x. getD-set-other l k i slot freshSlot ne }
@@ -143,10 +142,10 @@ module _ (call : FromClient) (l : List Slot) (s reply : List ℕ) (full : length
           },
         )
 
-  pub made-allocate : Made (allocateAct call l s)
-  unfolding allocateAct allocate
+  made-allocate : Made (done st (find (inSlot (lapsed (call .time))) l) (allocate (asRules call) s (surveyOf call l)))
+  unfolding allocate
   made-allocate =
-      made-lowest (find (inSlot (lapsed (call .time))) l) (allocate (asRules call) s (surveyOf call l)) (respond-keeps _ _ s _ _ _)
+      made-done (find (inSlot (lapsed (call .time))) l) (allocate (asRules call) s (surveyOf call l)) (respond-keeps _ _ s _ _ _)
       (λ slot out e. allocates (asRules call) s slot out (surveyOf call l) e .room)
       takes
 
@@ -233,29 +232,28 @@ module _ (call : FromClient) (l : List Slot) (s reply : List ℕ) (full : length
           },
         )
 
--- ---- A client's datagram other than Allocate
-send-keeps : (call : ClientCall) (s : List ℕ) (own : Bool) (slot : Slot) → Keeps (send call s own slot)
+-- ---- What is given out without a change of the slot counts as nothing
+send-unaccepted : (call : ClientCall) (s : List ℕ) (own : Bool) (slot : Slot) → Unaccepted (send call s own slot)
 unfolding send
-send-keeps call s own slot =
-    let place = firstOf 0x0013 (attributes s) in
+send-unaccepted call s own slot =
+    let place = firstOf attribute.«data» (attributes s) in
     let e = pick (not (permitted (call .time) (firstPeer s .peer) slot)) dropped (sentFrom call s slot place) in
     let d = pick (ipv6Peer (firstPeer s)) dropped e in
     let c = pick (malformedPeer (firstPeer s)) dropped d in
     let b = pick (not own) dropped c in
-    keeps _
-    (pick-unaccepted (anyUnknown s) b
+    pick-unaccepted (anyUnknown s) b
     (pick-unaccepted (not own) c
     (pick-unaccepted (malformedPeer (firstPeer s)) d
     (pick-unaccepted (ipv6Peer (firstPeer s)) e
-    (pick-unaccepted (not (permitted (call .time) (firstPeer s .peer) slot)) (sentFrom call s slot place) (payload place))))))
+    (pick-unaccepted (not (permitted (call .time) (firstPeer s .peer) slot)) (sentFrom call s slot place) (payload place)))))
   where
     payload : (place : Place) → Unaccepted (sentFrom call s slot place)
     payload (Value start len) = to-peer-unaccepted _ _ start len
     payload Absent = dropped-unaccepted
 
-channelled-keeps : (call : ClientCall) (s : List ℕ) (own : Bool) (slot : Slot) → Keeps (channelled call s own slot)
+channelled-unaccepted : (call : ClientCall) (s : List ℕ) (own : Bool) (slot : Slot) → Unaccepted (channelled call s own slot)
 unfolding channelled
-channelled-keeps call s own slot = keeps _ (go (channelDataOf s))
+channelled-unaccepted call s own slot = go (channelDataOf s)
   where
     go : (message : ChannelMessage) → Unaccepted (channelledFrom call slot own message)
     go (Data number start len) =
@@ -264,59 +262,50 @@ channelled-keeps call s own slot = keeps _ (go (channelDataOf s))
         pick-unaccepted (not own) (pick (not (has found)) dropped out) (pick-unaccepted (not (has found)) out (to-peer-unaccepted _ _ start len))
     go Malformed = dropped-unaccepted
 
-module _ (call : ClientCall) (s : List ℕ) (own : Bool) (was : Slot) where
-  request-keeps : (method : Method) → Keeps (requested call s own was method)
-  unfolding refresh createPermission channelBind
-  request-keeps Allocate = keeps dropped dropped-unaccepted
-  request-keeps Refresh = respond-keeps _ _ s _ _ _
-  request-keeps CreatePermission = respond-keeps _ _ s _ _ _
-  request-keeps ChannelBind = respond-keeps _ _ s _ _ _
+-- ---- A client's datagram
+module _ (call : FromClient) (st : State) (s reply : List ℕ) (full : length (st .slots) ≡ 64) (fits : CallFits (Client call)) (bytes : Bytes s) where
+  found : Found
+  found = find (inSlot (holds (call .time) (call .«five_tuple»))) (st .slots)
 
-  owned-keeps : Keeps (owned call s own was)
-  unfolding owned
-  owned-keeps = go (sorted s)
+  abbrev Makes : Act → Type 0
+  Makes x = Made call st s reply full fits bytes x
+
+  -- a rule about the caller's own slot, which writes it only where there is one
+  made-own : (rule : Bool → Slot → Change) → Keeps (rule (has found) (atOr freshSlot found (st .slots)))
+      → ((slot : Slot) (out : Out) → rule (has found) (atOr freshSlot found (st .slots)) ≡ write slot out → has found ≡ true)
+      → ((k : ℕ) → k < length (st .slots) → Live (call .time) (slotAt (st .slots) k) → slotAt (st .slots) k .allocation .«five_tuple» ≡ call .«five_tuple»
+      → (slot : Slot) (out : Out) → rule true (slotAt (st .slots) k) ≡ write slot out → Makes (accept (withSlots (set (st .slots) k slot) st) out))
+      → Makes (done st found (rule (has found) (atOr freshSlot found (st .slots))))
+  unfolding found atOr
+  made-own rule q h f = made-done call st s reply full fits bytes found (rule (has found) (atOr freshSlot found (st .slots))) q h at
     where
-      kind : (k : MessageKind) → Keeps (ofKind call s own was k)
-      kind (Request method) = request-keeps method
-      kind (Success method) = keeps dropped dropped-unaccepted
-      kind (Error method) = keeps dropped dropped-unaccepted
-      kind SendIndication = send-keeps call s own was
-      kind DataIndication = keeps dropped dropped-unaccepted
-      kind Other = keeps dropped dropped-unaccepted
+      at : (k : ℕ) → found ≡ At k → (slot : Slot) (out : Out) → rule (has found) (atOr freshSlot found (st .slots)) ≡ write slot out
+          → Makes (accept (withSlots (set (st .slots) k slot) st) out)
+      at k e slot out w =
+          let g = find-some (inSlot (holds (call .time) (call .«five_tuple»))) (st .slots) freshSlot k e in
+          let o = own-is (call .time) (call .«five_tuple») (slotAt (st .slots) k) (g .0) in
+          f k (g .1) (o .0) (o .1) slot out (rw e at w)
 
-      formed : (b : Bool) → Keeps (pick b (ofKind call s own was (messageKindOf (num s 0 2))) (keep dropped))
-      formed true = kind (messageKindOf (num s 0 2))
-      formed false = keeps dropped dropped-unaccepted
+  never : {A : Type 0} (out o : Out) (slot : Slot) → keep out ≡ write slot o → A
+  never out o slot e = let z : _≡_ {A = ℕ} 0 1 = cc in let y : ⊥ = omega arith in absurd y
 
-      go : (c : Class) → Keeps (ofClass call s own was c)
-      go Stun = formed (wellFormed s)
-      go ChannelData = channelled-keeps call s own was
-      go Neither = keeps dropped dropped-unaccepted
+  made-data : (rule : Bool → Slot → Out) → ((own : Bool) (slot : Slot) → Unaccepted (rule own slot))
+      → Makes (done st found (keep (rule (has found) (atOr freshSlot found (st .slots)))))
+  made-data rule u =
+      made-own (λ own slot. keep (rule own slot)) (keeps _ (u _ _)) (λ slot out e. never _ out slot e) (λ k room live mine slot out e. never _ out slot e)
 
-module _ (call : FromClient) (l : List Slot) (s reply : List ℕ) (full : length l ≡ 64) (fits : CallFits (Client call)) (bytes : Bytes s) where
-  pub made-found : Made call l s reply full fits bytes (foundAct (Client call) l s)
-  unfolding foundAct keyed
-  made-found =
-      let found = find (inSlot (holds (call .time) (call .«five_tuple»))) l in
-      let was = slotAt l (placeOf found) in
-      made-lowest call l s reply full fits bytes found (owned (asRules call) s (has found) was) (owned-keeps (asRules call) s (has found) was)
-      (λ slot out e. owned-writes (asRules call) s (has found) was slot out e .had)
-      (λ k f slot out e. at k f slot out (owned-writes (asRules call) s (has found) was slot out e))
-    where
-      Searched : Found
-      Searched = find (inSlot (holds (call .time) (call .«five_tuple»))) l
-
-      at : (k : ℕ) → Searched ≡ At k → (slot : Slot) (out : Out) → Requested (asRules call) s (has Searched) (slotAt l (placeOf Searched)) slot out
-          → Made call l s reply full fits bytes (put k slot out)
-      at k f slot out r =
-          let g = find-some (inSlot (holds (call .time) (call .«five_tuple»))) l freshSlot k f in
-          let o = own-is (call .time) (call .«five_tuple») (slotAt l k) (g .0) in
-          which (g .1) (o .0) (o .1) (rw f at (r .which))
-        where
-          which : k < length l → Live (call .time) (slotAt l k) → slotAt l k .allocation .«five_tuple» ≡ call .«five_tuple»
-              → (refresh (asRules call) s true (slotAt l k) ≡ write slot out)
-              ⊎ ((createPermission (asRules call) s true (slotAt l k) ≡ write slot out) ⊎ (channelBind (asRules call) s true (slotAt l k) ≡ write slot out))
-              → Made call l s reply full fits bytes (put k slot out)
-          which room live mine (inl e) = refreshed-made call l s reply full fits bytes k room live mine true slot out e
-          which room live mine (inr (inl e)) = permitted-made call l s reply full fits bytes k room live mine true slot out e
-          which room live mine (inr (inr e)) = bound-made call l s reply full fits bytes k room live mine true slot out e
+  pub made-asked : (asked : Asked) → Makes (done st (onAsked call s (st .slots) asked .place) (onAsked call s (st .slots) asked .change))
+  unfolding found refresh createPermission channelBind
+  made-asked Asked.Allocate = made-allocate call st s reply full fits bytes
+  made-asked Asked.Refresh =
+      made-own (refresh (asRules call) s) (respond-keeps _ _ s _ _ _) (λ slot out e. refreshes (asRules call) s slot out _ _ e .owner .live)
+      (λ k room live mine slot out e. refreshed-made call st s reply full fits bytes k room live mine true slot out e)
+  made-asked Asked.CreatePermission =
+      made-own (createPermission (asRules call) s) (respond-keeps _ _ s _ _ _) (λ slot out e. permits (asRules call) s slot out _ _ e .owner .live)
+      (λ k room live mine slot out e. permitted-made call st s reply full fits bytes k room live mine true slot out e)
+  made-asked Asked.ChannelBind =
+      made-own (channelBind (asRules call) s) (respond-keeps _ _ s _ _ _) (λ slot out e. binds (asRules call) s slot out _ _ e .owner .live)
+      (λ k room live mine slot out e. bound-made call st s reply full fits bytes k room live mine true slot out e)
+  made-asked Asked.Send = made-data (send (asRules call) s) (send-unaccepted (asRules call) s)
+  made-asked Asked.ChannelData = made-data (channelled (asRules call) s) (channelled-unaccepted (asRules call) s)
+  made-asked Asked.Nothing = made-stay call st s reply full fits bytes dropped dropped-unaccepted

@@ -9,52 +9,53 @@ use lib.Dec.{eqb, lit<}
 use lib.ListN.{length, take, drop, replicate, length-append}
 use lib.Seq.{take-at, take-length}
 use borrow.Author.Tests.{eqb-true, eqb-false}
-use Rattle.wire.specs.Wire.{num, bytesOf}
+use Rattle.wire.specs.Wire.{bytesOf}
 use Rattle.choice.specs.Choice.{pick}
 use Rattle.address.specs.declared.Address.{Address}
 use Rattle.address.specs.declared.Address.the-variants.{V4, V6}
 use Rattle.address.specs.declared.FiveTuple.{FiveTuple}
 use Rattle.address.specs.declared.Peer.{Peer as Transport}
 use Rattle.address.specs.declared.TransactionId.{TransactionId}
-use Rattle.stun.specs.declared.kinds.Class.{Class}
-use Rattle.stun.specs.declared.kinds.Class.the-variants.{Stun, ChannelData, Neither}
 use Rattle.stun.specs.declared.kinds.Method.{Method}
-use Rattle.stun.specs.declared.kinds.Method.the-variants.{Allocate, Refresh, CreatePermission, ChannelBind}
-use Rattle.stun.specs.declared.kinds.MessageKind.{MessageKind}
-use Rattle.stun.specs.declared.kinds.MessageKind.the-variants as Kind
+use Rattle.stun.specs.declared.kinds.Method.the-variants.{CreatePermission, ChannelBind}
 use Rattle.stun.specs.declared.message.Found.{Found as Place}
 use Rattle.stun.specs.declared.message.Found.the-variants.{Value, Absent}
 use Rattle.stun.specs.declared.channel_data.ChannelMessage.{ChannelMessage}
 use Rattle.stun.specs.declared.channel_data.ChannelMessage.the-variants.{Data, Malformed}
-use Rattle.stun.specs.Kinds.{messageKindOf}
-use Rattle.stun.specs.Message.{attributes, firstOf, unknownTypes, sorted, wellFormed, channelDataOf}
+use Rattle.stun.specs.AttributeNumbers as attribute
+use Rattle.stun.specs.Message.{attributes, firstOf, unknownTypes, channelDataOf}
 use Rattle.stun.specs.Values.{transactionId, firstPeer}
 use Rattle.messages.specs.Messages.{padding, allocateSuccess, refreshSuccess, bareSuccess, errorResponse, unknownResponse, dataIndication, channelData}
 use Rattle.table.specs.declared.Slot.{Slot}
 use Rattle.table.specs.declared.Found.{Found}
 use Rattle.table.specs.declared.Found.the-variants.{At, Nothing}
 use Rattle.table.specs.Search.{find, has, atOr}
-use Rattle.table.specs.Table.{freshChannel, numbered, leadsTo}
-use Rattle.slots.specs.Slots.{slotAt, inSlot, searched, lapsed}
+use Rattle.table.specs.Table.{freshSlot, freshChannel, numbered, leadsTo}
 use Rattle.rules.specs.declared.answer.Outcome.the-variants.{ToClient}
 use Rattle.rules.specs.Act as rules
 use Rattle.rules.specs.Act.{Out, dropped, toClient, toPeer, Change, keep, write, outOf, errorMessage, respond}
 use Rattle.rules.specs.Values.{lifetime, grantedRefresh, anyUnknown, isIpv6, ipv4Of, malformedPeer, ipv6Peer}
 use Rattle.rules.specs.Requests.{allocate, refresh, createPermission, channelBind}
 use Rattle.rules.specs.Data.{permitted, sentFrom, send, channelledFrom, channelled, relayed, fromPeer}
-use Rattle.rules.specs.Client.{isAllocate, requested, ofKind, ofClass, owned}
+use Rattle.rules.specs.declared.client.Asked.{Asked}
+use Rattle.rules.specs.declared.client.Asked.the-variants as Asked
+use Rattle.rules.specs.Client.{askedBy}
 use Rattle.rules.proofs.Accepted.{granted-range, granted-refresh-range}
-use Rattle.relay.specs.declared.calls.Call.{Call}
-use Rattle.relay.specs.declared.calls.Call.the-variants.{Client, Peer}
-use Rattle.relay.specs.declared.calls.FromClient.{FromClient}
-use Rattle.relay.specs.Step.{Act, refuse, stay, put, outcomeOf, replyAfter, timeOf, refusal, placeOf, lowest, asRules, surveyOf, allocateAct, keyOf, onFound, foundAct, acceptedAct, act, Ready}
+use Rattle.relay.specs.declared.incoming.Call.{Call}
+use Rattle.relay.specs.declared.incoming.Call.the-variants.{Client, Peer}
+use Rattle.relay.specs.declared.incoming.FromClient.{FromClient}
+use Rattle.relay.specs.State.{State, clockOf, atTime}
+use Rattle.relay.specs.Outcomes.{Act, refuse, accept, outcomeOf, replyAfter}
+use Rattle.relay.specs.Refusals.{timeOf, lengths, refusal}
+use Rattle.relay.specs.Step.{asRules, surveyOf, onAsked, decided, done, accepted, act}
+use Rattle.relay.specs.Inner.{Ready}
 use Rattle.relay.proofs.Laws.{not-refused}
 use Rattle.client_reader.specs.declared.Message.the-variants as Is
 use Rattle.client_reader.specs.declared.ReadMessage.{ReadMessage}
 use Rattle.client_reader.specs.Fields.{Bytes, IdFits, AddressFits, IsBare, IsMessage, InRange, written}
 use Rattle.client_reader.specs.Reader.{plain, readOf}
 use Rattle.client_reader.proofs.Laws.{unique, read-allocate, read-refresh, read-bare, read-error, read-unknown, read-indication, read-channel-data}
-use Rattle.history.specs.Events.{CallFits, TransportFits, Arrival, State, outcome, replied}
+use Rattle.history.specs.Events.{CallFits, TransportFits, Arrival, acts, outcome, replied}
 use Rattle.history.proofs.Tests.{find-some, leads-is}
 use Rattle.history.proofs.FreePort.{port-fits}
 use Rattle.history.proofs.Replies.{id-fits}
@@ -182,35 +183,40 @@ module _ (s : List ℕ) (bytes : Bytes s) where
         respond-back _ _ _ _ (allocate-coded s (asRules call) (surveyOf call l))
         (allocate-back (transactionId s) (id-fits s bytes) _ _ _ _ (fits .0) (port-fits _ _) (omega arith) (fits .1))
 
-    requested-readable : (own : Bool) (slot : Slot) (method : Method) → Readable (outOf (requested (asRules call) s own slot method))
-    unfolding refresh createPermission channelBind
-    requested-readable own slot Allocate = tt
-    requested-readable own slot Refresh =
+    refresh-readable : (own : Bool) (slot : Slot) → Readable (outOf (refresh (asRules call) s own slot))
+    unfolding refresh
+    refresh-readable own slot =
         respond-back _ _ _ _ (refresh-coded s (asRules call) own slot)
         (refresh-back (transactionId s) (id-fits s bytes) (grantedRefresh (lifetime s)) (small (granted-refresh-range (lifetime s))))
       where
         small : (grantedRefresh (lifetime s) ≡ 0) ⊎ ((600 ≤ grantedRefresh (lifetime s)) × (grantedRefresh (lifetime s) ≤ 3600)) → grantedRefresh (lifetime s) < 2 ^ 32
         small (inl z) = omega arith
         small (inr z) = omega arith
-    requested-readable own slot CreatePermission =
+
+    permission-readable : (own : Bool) (slot : Slot) → Readable (outOf (createPermission (asRules call) s own slot))
+    unfolding createPermission
+    permission-readable own slot =
         respond-back _ _ _ _ (permission-coded s (asRules call) own slot) (bare-back (transactionId s) (id-fits s bytes) CreatePermission tt)
-    requested-readable own slot ChannelBind =
+
+    channel-readable : (own : Bool) (slot : Slot) → Readable (outOf (channelBind (asRules call) s own slot))
+    unfolding channelBind
+    channel-readable own slot =
         respond-back _ _ _ _ (channel-coded s (asRules call) own slot _ _) (bare-back (transactionId s) (id-fits s bytes) ChannelBind tt)
 
-    -- ---- A client's datagram other than Allocate
-    send-readable : (own : Bool) (slot : Slot) → Readable (outOf (send (asRules call) s own slot))
+    -- ---- A client's data
+    send-readable : (own : Bool) (slot : Slot) → Readable (send (asRules call) s own slot)
     unfolding send
     send-readable own slot =
         unless (anyUnknown s) _
         (unless (not own) _
         (unless (malformedPeer (firstPeer s)) _
-        (unless (ipv6Peer (firstPeer s)) _ (unless (not (permitted (call .time) (firstPeer s .peer) slot)) _ (go (firstOf 0x0013 (attributes s)))))))
+        (unless (ipv6Peer (firstPeer s)) _ (unless (not (permitted (call .time) (firstPeer s .peer) slot)) _ (go (firstOf attribute.«data» (attributes s)))))))
       where
         go : (place : Place) → Readable (sentFrom (asRules call) s slot place)
         go (Value start len) = tt
         go Absent = tt
 
-    channelled-readable : (own : Bool) (slot : Slot) → Readable (outOf (channelled (asRules call) s own slot))
+    channelled-readable : (own : Bool) (slot : Slot) → Readable (channelled (asRules call) s own slot)
     unfolding channelled
     channelled-readable own slot = go (channelDataOf s)
       where
@@ -218,26 +224,14 @@ module _ (s : List ℕ) (bytes : Bytes s) where
         go (Data number start len) = unless (not own) _ (unless (not (has (find (numbered (call .time) number) (slot .channels)))) (toPeer _ _ start len) tt)
         go Malformed = tt
 
-    owned-readable : (own : Bool) (slot : Slot) → Readable (outOf (owned (asRules call) s own slot))
-    unfolding owned
-    owned-readable own slot = go (sorted s)
-      where
-        kind : (k : MessageKind) → Readable (outOf (ofKind (asRules call) s own slot k))
-        kind (Kind.Request method) = requested-readable own slot method
-        kind (Kind.Success method) = tt
-        kind (Kind.Error method) = tt
-        kind Kind.SendIndication = send-readable own slot
-        kind Kind.DataIndication = tt
-        kind Kind.Other = tt
-
-        formed : (b : Bool) → Readable (outOf (pick b (ofKind (asRules call) s own slot (messageKindOf (num s 0 2))) (keep dropped)))
-        formed true = kind (messageKindOf (num s 0 2))
-        formed false = tt
-
-        go : (c : Class) → Readable (outOf (ofClass (asRules call) s own slot c))
-        go Stun = formed (wellFormed s)
-        go ChannelData = channelled-readable own slot
-        go Neither = tt
+    asked-readable : (l : List Slot) (asked : Asked) → Readable (outOf (onAsked call s l asked .change))
+    asked-readable l Asked.Allocate = allocate-readable l
+    asked-readable l Asked.Refresh = refresh-readable _ _
+    asked-readable l Asked.CreatePermission = permission-readable _ _
+    asked-readable l Asked.ChannelBind = channel-readable _ _
+    asked-readable l Asked.Send = send-readable _ _
+    asked-readable l Asked.ChannelData = channelled-readable _ _
+    asked-readable l Asked.Nothing = tt
 
 -- ---- A peer's datagram
 ipv4-fits : (a : Address) → AddressFits a → ipv4Of a < 2 ^ 32
@@ -256,7 +250,7 @@ module _ (time : ℕ) (source : Transport) (id : TransactionId) (s : List ℕ) (
           channel-back _ s (live .1) (live .2) few
       go Nothing e = indication-back id id-ok (ipv4Of (source .address)) (source .port) s (ipv4-fits (source .address) (fits .0)) (fits .1) few
 
-  peer-readable : (own : Bool) (slot : Slot) → Readable (outOf (fromPeer time source id s own slot))
+  peer-readable : (own : Bool) (slot : Slot) → Readable (fromPeer time source id s own slot)
   unfolding fromPeer
   peer-readable own slot =
       unless (not own) _ (unless (isIpv6 (source .address)) _ (unless (not (permitted time source slot)) (toClient _ _) (relayed-back slot)))
@@ -264,43 +258,30 @@ module _ (time : ℕ) (source : Transport) (id : TransactionId) (s : List ℕ) (
 -- ---- Acts
 abbrev ReadableAct : Act → Type 0
 ReadableAct (refuse number) = Unit
-ReadableAct (stay out) = Readable out
-ReadableAct (put k slot out) = Readable out
+ReadableAct (accept next out) = Readable out
 
-lowest-readable : (found : Found) (change : Change) → Readable (outOf change) → ReadableAct (lowest found change)
-lowest-readable (At k) (keep out) r = r
-lowest-readable (At k) (write slot out) r = r
-lowest-readable Nothing change r = r
+done-readable : (st : State) (found : Found) (change : Change) → Readable (outOf change) → ReadableAct (done st found change)
+done-readable st (At k) (keep out) r = r
+done-readable st (At k) (write slot out) r = r
+done-readable st Nothing change r = r
 
-found-readable : (call : Call) (l : List Slot) (s : List ℕ) → ((own : Bool) (slot : Slot) → Readable (outOf (onFound call s own slot))) → ReadableAct (foundAct call l s)
-unfolding foundAct
-found-readable call l s r =
-    let found = searched (timeOf call) (keyOf call) l in
-    let slot = slotAt l (placeOf found) in
-    lowest-readable found (onFound call s (has found) slot) (r (has found) slot)
+decided-readable : (call : Call) (l : List Slot) (s reply : List ℕ) → CallFits call → Bytes s → Ready call s reply → Readable (outOf (decided call s l .change))
+unfolding decided
+decided-readable (Client call) l s reply fits bytes ready = asked-readable s bytes call fits l (askedBy s)
+decided-readable (Peer call) l s reply fits bytes ready = peer-readable (call .time) (call .source) (call .id) s (fits .0) (fits .1) (ready .short) _ _
 
-accepted-readable : (call : Call) (l : List Slot) (s reply : List ℕ) → CallFits call → Bytes s → Ready call s reply → ReadableAct (acceptedAct call l s)
-unfolding allocateAct
-accepted-readable (Client call) l s reply fits bytes ready = go (isAllocate s)
-  where
-    go : (b : Bool) → ReadableAct (pick b (allocateAct call l s) (foundAct (Client call) l s))
-    go true =
-        lowest-readable (find (inSlot (lapsed (call .time))) l) (allocate (asRules call) s (surveyOf call l)) (allocate-readable s bytes call fits l)
-    go false = found-readable (Client call) l s (owned-readable s bytes call fits)
-accepted-readable (Peer call) l s reply fits bytes ready =
-    found-readable (Peer call) l s (peer-readable (call .time) (call .source) (call .id) s (fits .0) (fits .1) (ready .short))
-
-act-readable : (st : State) (a : Arrival) → ReadableAct (act (st .clock) (st .slots) (a .call) (a .datagram) (length (a .reply)))
-unfolding act
+act-readable : (st : State) (a : Arrival) → ReadableAct (acts st a)
+unfolding act accepted
 act-readable st a = go (eqb number 0) refl
   where
     number : ℕ
-    number = refusal (st .clock) (length (st .slots)) (length (a .datagram)) (length (a .reply)) (a .call)
+    number = refusal (clockOf st) (lengths (length (st .slots)) (length (a .datagram)) (length (a .reply))) (a .call)
 
-    go : (b : Bool) → eqb number 0 ≡ b → ReadableAct (pick b (acceptedAct (a .call) (st .slots) (a .datagram)) (refuse number))
+    go : (b : Bool) → eqb number 0 ≡ b → ReadableAct (pick b (accepted st (a .call) (a .datagram)) (refuse number))
     go true e =
-        accepted-readable (a .call) (st .slots) (a .datagram) (a .reply) (a .call-fits) (a .bytes)
-        (not-refused (st .clock) (st .slots) (a .datagram) (a .reply) (a .call) (eqb-true number 0 e) .ready)
+        done-readable (atTime (timeOf (a .call)) st) (decided (a .call) (a .datagram) (st .slots) .place) (decided (a .call) (a .datagram) (st .slots) .change)
+        (decided-readable (a .call) (st .slots) (a .datagram) (a .reply) (a .call-fits) (a .bytes)
+        (not-refused (clockOf st) (st .slots) (a .datagram) (a .reply) (a .call) (eqb-true number 0 e) .ready))
     go false e = tt
 
 -- ---- The theorem
@@ -315,9 +296,8 @@ sent-readable (toPeer port peer start len) reply C n r e = let z : _≡_ {A = �
 
 -- every state, arrival and answer to a client: what is sent is read back
 pub read-back : (st : State) (a : Arrival) (C : FiveTuple) (n : ℕ) → outcome st a ≡ ToClient C n → ReadBack (take n (replied st a))
-read-back st a C n e = go (act (st .clock) (st .slots) (a .call) (a .datagram) (length (a .reply))) (act-readable st a) e
+read-back st a C n e = go (acts st a) (act-readable st a) e
   where
     go : (x : Act) → ReadableAct x → outcomeOf x ≡ ToClient C n → ReadBack (take n (replyAfter (a .reply) x))
     go (refuse number) r e = let z : _≡_ {A = ℕ} 0 1 = cc in let y : ⊥ = omega arith in absurd y
-    go (stay out) r e = sent-readable out (a .reply) C n r e
-    go (put k slot out) r e = sent-readable out (a .reply) C n r e
+    go (accept next out) r e = sent-readable out (a .reply) C n r e

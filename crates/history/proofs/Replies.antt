@@ -20,8 +20,8 @@ use Rattle.stun.specs.Values.{transactionId, peers, firstPeer}
 use Rattle.messages.specs.Messages.{messageBytes, errorCodeAttribute, unknownAttribute, errorResponse, unknownResponse, allocateSuccess, refreshSuccess, bareSuccess}
 use Rattle.rules.specs.declared.answer.Outcome.{Outcome}
 use Rattle.rules.specs.Act.{Out, dropped, toClient, toPeer, Change, keep, write, outcomeOf, replyAfter, errorMessage}
-use Rattle.relay.specs.declared.calls.Call.the-variants.{Client}
-use Rattle.relay.specs.declared.calls.FromClient.{FromClient}
+use Rattle.relay.specs.declared.incoming.Call.the-variants.{Client}
+use Rattle.relay.specs.declared.incoming.FromClient.{FromClient}
 use Rattle.client_reader.specs.declared.ReadMessage.{ReadMessage}
 use Rattle.client_reader.specs.Fields.{Bytes, IdFits, AddressFits, written}
 use Rattle.client_reader.specs.declared.Message.the-variants.{Error}

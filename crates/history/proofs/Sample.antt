@@ -16,18 +16,20 @@ use Rattle.stun.specs.Values.{transactionId, v4At, addressAt, peersOf, peersFro
 use Rattle.messages.specs.Messages.{allocateSuccess, bareSuccess, dataIndication}
 use Rattle.table.specs.Search.{find, entry, place, atOr}
 use Rattle.table.specs.Table.{liveAllocation, livePermission, freshSlot, isChannelNumber, liveChannel, holds, holdsUser, holdsPort, permits, freePermission, permissionEntry, permit, leadsTo}
-use Rattle.slots.specs.Slots.{slotAt, keyed, count}
+use Rattle.slots.specs.Slots.{slotAt, count}
 use Rattle.rules.specs.declared.answer.Outcome.the-variants.{Dropped, ToClient}
 use Rattle.rules.specs.Act.{check, respond}
 use Rattle.rules.specs.Values.{anyUnknown, any, malformedPeer, ipv6Peer}
 use Rattle.rules.specs.Requests.{requestCode, ownCode, allocateCode, allocated, allocate, permitPeer, permitAll, createPermissionCode, createPermission, firstFree, portFor}
 use Rattle.rules.specs.Data.{permitted, relayed, fromPeer}
-use Rattle.rules.specs.Client.{isAllocate, owned}
-use Rattle.relay.specs.Step.{clientDatagram, peerDatagram, refusal, portsHeld, allocateAct, foundAct, act}
+use Rattle.rules.specs.Client.{askedBy}
+use Rattle.relay.specs.State.{State, empty}
+use Rattle.relay.specs.Refusals.{clientDatagram, peerDatagram, refusal}
+use Rattle.relay.specs.Step.{portsHeld, decided, accepted, act}
 use Rattle.client_reader.specs.Fields.{Bytes}
 use Rattle.client_reader.specs.Reader.{allBelow}
 use Rattle.client_reader.proofs.Types.{all-below}
-use Rattle.history.specs.Events.{Arrival, State, empty, outcome, replied, run}
+use Rattle.history.specs.Events.{Arrival, outcome, replied, run}
 
 -- ---- The calls
 
@@ -107,7 +109,7 @@ pub record Sample : Type 0 where
       ≡ record { user = 3; «five_tuple» = caller; port = 49157; expiry = 1600 }
 
 pub sample : Sample
-unfolding act refusal isAllocate sorted wellFormed walk walkF stepAt nextAt num allocateAct allocate respond allocateCode requestCode check anyUnknown unknownTypes unknownNumbers attributesFrom isIntegrity isUnknown attributeKindOf find holds holdsUser holdsPort liveAllocation both sameFiveTuple samePeer sameAddress freshSlot numberValue firstOf count portFor firstFree portsHeld allocated allocateSuccess bytesOf transactionId foundAct keyed owned createPermission createPermissionCode ownCode permitAll permitPeer permit permissionEntry entry place permits freePermission livePermission any malformedPeer ipv6Peer peersFrom peersOf addressAt v4At bareSuccess fromPeer permitted relayed leadsTo liveChannel isChannelNumber atOr dataIndication
+unfolding act refusal askedBy sorted wellFormed walk walkF stepAt nextAt num decided allocate respond allocateCode requestCode check anyUnknown unknownTypes unknownNumbers attributesFrom isIntegrity isUnknown attributeKindOf find holds holdsUser holdsPort liveAllocation both sameFiveTuple samePeer sameAddress freshSlot numberValue firstOf count portFor firstFree portsHeld allocated allocateSuccess bytesOf transactionId accepted createPermission createPermissionCode ownCode permitAll permitPeer permit permissionEntry entry place permits freePermission livePermission any malformedPeer ipv6Peer peersFrom peersOf addressAt v4At bareSuccess fromPeer permitted relayed leadsTo liveChannel isChannelNumber atOr dataIndication
 sample = record {
   allocate-line = record { to = refl; holds = refl };
   permission-line = record { to = refl; holds = refl };

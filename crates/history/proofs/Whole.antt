@@ -17,31 +17,34 @@ use Rattle.address.specs.declared.TransactionId.{TransactionId}
 use Rattle.table.specs.declared.Slot.{Slot}
 use Rattle.table.specs.declared.Found.{Found}
 use Rattle.table.specs.declared.Found.the-variants.{At, Nothing}
-use Rattle.table.specs.Search.{find, has}
+use Rattle.table.specs.Search.{find, has, atOr}
 use Rattle.table.specs.Table.{freshSlot, permits, holdsPort}
-use Rattle.slots.specs.Slots.{slotAt, inSlot, keyed}
+use Rattle.slots.specs.Slots.{slotAt, inSlot}
 use Rattle.rules.specs.declared.answer.Outcome.{Outcome}
 use Rattle.rules.specs.declared.answer.Outcome.the-variants.{Refused, Dropped, ToClient}
 use Rattle.rules.specs.Act as rules
 use Rattle.rules.specs.Act.{Out, dropped, toClient, Change, keep, write}
-use Rattle.rules.specs.Values.{isIpv6}
+use Rattle.rules.specs.declared.client.Asked.{Asked}
 use Rattle.rules.specs.Data.{permitted, relayed, fromPeer}
-use Rattle.rules.specs.Client.{isAllocate}
-use Rattle.relay.specs.declared.calls.Call.{Call}
-use Rattle.relay.specs.declared.calls.Call.the-variants.{Client, Peer}
-use Rattle.relay.specs.declared.calls.FromPeer.{FromPeer}
-use Rattle.relay.specs.Step.{Act, refuse, stay, put, outcomeOf, replyAfter, slotsAfter, clockAfter, timeOf, refusal, place, ifFound, placeOf, lowest, allocateAct, foundAct, allocates, clientOf, acceptedAct, act}
-use Rattle.relay.proofs.Laws.{not-refused, allocate-clock, found-clock}
+use Rattle.rules.specs.Client.{askedBy}
+use Rattle.relay.specs.declared.incoming.Call.{Call}
+use Rattle.relay.specs.declared.incoming.Call.the-variants.{Client, Peer}
+use Rattle.relay.specs.declared.incoming.FromPeer.{FromPeer}
+use Rattle.relay.specs.State.{State, empty, clockOf, atTime}
+use Rattle.relay.specs.Outcomes.{Act, refuse, accept, outcomeOf, replyAfter, stateAfter}
+use Rattle.relay.specs.Refusals.{timeOf, lengths, refusal}
+use Rattle.relay.specs.Step.{onAsked, decided, done, accepted, act}
+use Rattle.relay.proofs.Laws.{not-refused}
 use Rattle.history.specs.Counted.{Counted, nothing}
 use Rattle.client_reader.specs.Fields.{Bytes}
-use Rattle.history.specs.Events.{CallFits, Arrival, State, empty, outcome, replied, next, countsBy}
+use Rattle.history.specs.Events.{CallFits, Arrival, outcome, replied, next, countsBy}
 use Rattle.history.specs.Statement.{Live, Apart, FromIpv4}
 use Rattle.history.proofs.Readings.{given-holder, Delivers, delivers→, delivers←}
 use Rattle.history.proofs.Table as table
 use Rattle.history.proofs.Table.{HasPermission, Inv, own-port, inv-later, Reach, reach→, reach←}
 use Rattle.history.proofs.Keep.{keep as keep-inv}
 use Rattle.history.proofs.Tests.{find-some, port-is, none-port, has-permission→, has-permission←}
-use Rattle.history.proofs.Made.{quiet, Made, made-allocate, made-found}
+use Rattle.history.proofs.Made.{quiet, made-asked}
 
 -- ---- The empty relay
 fresh-slots : (n i : ℕ) → slotAt (replicate n freshSlot) i ≡ freshSlot
@@ -69,97 +72,81 @@ refused-counts : (call : Call) (s : List ℕ) (number : ℕ) (reply : List ℕ) 
 refused-counts (Client call) s number reply = refl
 refused-counts (Peer call) s number reply = refl
 
-passed-by : (b : Bool) (n rest : ℕ) → pick b (suc n) rest ≡ 0 → rest ≡ 0
-passed-by true n rest e = let y : ⊥ = omega arith in absurd y
-passed-by false n rest e = e
-
--- a call that is not refused is not before the clock
-last-check : (t clock : ℕ) → _≡_ {A = ℕ} (pick (ltb t clock) 1 0) 0 → clock ≤ t
-last-check t clock e = go (ltb t clock) refl e
+-- a call that is not refused sets the clock
+clock-accepted : (st : State) (call : Call) (s : List ℕ) → clockOf (stateAfter st (accepted st call s)) ≡ timeOf call
+unfolding accepted
+clock-accepted st call s = go (decided call s (st .slots) .place) (decided call s (st .slots) .change)
   where
-    go : (b : Bool) → ltb t clock ≡ b → _≡_ {A = ℕ} (pick b 1 0) 0 → clock ≤ t
-    go true q e = let y : ⊥ = omega arith in absurd y
-    go false q e = ltb-false t clock q
-
-not-before : (clock slots s reply : ℕ) (call : Call) → refusal clock slots s reply call ≡ 0 → clock ≤ timeOf call
-unfolding refusal
-not-before clock slots s reply (Client call) e =
-    let a = passed-by (ltb reply 1536) 2 _ e in
-    let b = passed-by (not (eqb slots 64)) 5 _ a in
-    let c = passed-by (ltb 1500 s) 3 _ b in
-    let d = passed-by (not (eqb (call .«five_tuple» .protocol) 17)) 6 _ c in
-    let f = passed-by (ltb 32 (call .user)) 4 _ d in
-    last-check (call .time) clock (passed-by (ltb (2 ^ 40) (call .time)) 1 _ f)
-not-before clock slots s reply (Peer call) e =
-    let a = passed-by (ltb reply 1536) 2 _ e in
-    let b = passed-by (not (eqb slots 64)) 5 _ a in
-    let c = passed-by (ltb 1500 s) 3 _ b in
-    last-check (call .time) clock (passed-by (ltb (2 ^ 40) (call .time)) 1 _ c)
-
--- an act that is not a refusal sets the clock
-clock-accepted : (clock t : ℕ) (call : Call) (l : List Slot) (s : List ℕ) → clockAfter clock t (acceptedAct call l s) ≡ t
-clock-accepted clock t call l s = go (allocates call s)
-  where
-    go : (b : Bool) → clockAfter clock t (pick b (allocateAct (clientOf call) l s) (foundAct call l s)) ≡ t
-    go true = allocate-clock clock t (clientOf call) l s
-    go false = found-clock clock t call l s
+    go : (found : Found) (change : Change) → clockOf (stateAfter st (done (atTime (timeOf call) st) found change)) ≡ timeOf call
+    go (At k) (keep out) = refl
+    go (At k) (write slot out) = refl
+    go Nothing change = refl
 
 -- a peer's datagram changes no slot
-lowest-keep : (found : Found) (out : Out) → lowest found (keep out) ≡ stay out
-lowest-keep (At k) out = refl
-lowest-keep Nothing out = refl
+done-keep : (st : State) (found : Found) (out : Out) → done st found (keep out) ≡ accept st out
+done-keep st (At k) out = refl
+done-keep st Nothing out = refl
 
 peer-out : FromPeer → List Slot → List ℕ → Out
 peer-out call l s =
     let found = find (inSlot (holdsPort (call .time) (call .port))) l in
-    let slot = slotAt l (placeOf found) in
-    pick (not (has found)) dropped
-    (pick (isIpv6 (call .source .address)) dropped
-    (pick (not (permitted (call .time) (call .source) slot)) dropped
-    (toClient (slot .allocation .«five_tuple») (relayed (call .time) (call .source) (call .id) s slot))))
+    fromPeer (call .time) (call .source) (call .id) s (has found) (atOr freshSlot found l)
 
-peer-stays : (call : FromPeer) (l : List Slot) (s : List ℕ) → acceptedAct (Peer call) l s ≡ stay (peer-out call l s)
-unfolding foundAct keyed fromPeer peer-out
-peer-stays call l s = lowest-keep (find (inSlot (holdsPort (call .time) (call .port))) l) _
+peer-stays : (call : FromPeer) (st : State) (s : List ℕ) → accepted st (Peer call) s ≡ accept (atTime (call .time) st) (peer-out call (st .slots) s)
+unfolding accepted decided peer-out
+peer-stays call st s = done-keep (atTime (call .time) st) (find (inSlot (holdsPort (call .time) (call .port))) (st .slots)) _
 
 -- what an accepted call does to the table
-made : (call : Call) (l : List Slot) (s reply : List ℕ) → length l ≡ 64 → CallFits call → Bytes s
-    → table.Change (timeOf call) (slotAt l) (slotAt (slotsAfter l (acceptedAct call l s)))
-    (countsBy call s (outcomeOf (acceptedAct call l s)) (replyAfter reply (acceptedAct call l s)))
-made (Client call) l s reply full fits bytes = go (isAllocate s)
+made : (call : Call) (st : State) (s reply : List ℕ) → length (st .slots) ≡ 64 → CallFits call → Bytes s
+    → table.Change (timeOf call) (slotAt (st .slots)) (slotAt (stateAfter st (accepted st call s) .slots))
+    (countsBy call s (outcomeOf (accepted st call s)) (replyAfter reply (accepted st call s)))
+unfolding accepted decided
+made (Client call) st s reply full fits bytes = go (askedBy s)
   where
-    go : (b : Bool) → Made call l s reply full fits bytes (pick b (allocateAct call l s) (foundAct (Client call) l s))
-    go true = made-allocate call l s reply full fits bytes
-    go false = made-found call l s reply full fits bytes
-made (Peer call) l s reply full fits bytes = rw (peer-stays call l s) (quiet (call .time) (slotAt l))
+    -- an act that is not a refusal says itself what state it leaves
+    same : (found : Found) (change : Change)
+        → table.Change (call .time) (slotAt (st .slots)) (slotAt (stateAfter (atTime (call .time) st) (done (atTime (call .time) st) found change) .slots))
+        (countsBy (Client call) s (outcomeOf (done (atTime (call .time) st) found change)) (replyAfter reply (done (atTime (call .time) st) found change)))
+        → table.Change (call .time) (slotAt (st .slots)) (slotAt (stateAfter st (done (atTime (call .time) st) found change) .slots))
+        (countsBy (Client call) s (outcomeOf (done (atTime (call .time) st) found change)) (replyAfter reply (done (atTime (call .time) st) found change)))
+    same (At k) (keep out) c = c
+    same (At k) (write slot out) c = c
+    same Nothing change c = c
+
+    go : (asked : Asked) → table.Change (call .time) (slotAt (st .slots))
+        (slotAt (stateAfter st (done (atTime (call .time) st) (onAsked call s (st .slots) asked .place) (onAsked call s (st .slots) asked .change)) .slots))
+        (countsBy (Client call) s (outcomeOf (done (atTime (call .time) st) (onAsked call s (st .slots) asked .place) (onAsked call s (st .slots) asked .change)))
+        (replyAfter reply (done (atTime (call .time) st) (onAsked call s (st .slots) asked .place) (onAsked call s (st .slots) asked .change))))
+    go asked = same (onAsked call s (st .slots) asked .place) (onAsked call s (st .slots) asked .change) (made-asked call (atTime (call .time) st) s reply full fits bytes asked)
+made (Peer call) st s reply full fits bytes = rw (peer-stays call st s) (quiet (call .time) (slotAt (st .slots)))
 
 -- what a call counts as
 abbrev pub countOf : State → Arrival → Counted
 countOf st a = countsBy (a .call) (a .datagram) (outcome st a) (replied st a)
 
-module _ (st : State) (a : Arrival) (h : List Counted) (I : Inv (st .clock) (slotAt (st .slots)) h) where
+module _ (st : State) (a : Arrival) (h : List Counted) (I : Inv (clockOf st) (slotAt (st .slots)) h) where
   -- the tie after an act
   abbrev After : Act → Type 0
   After x =
-      Inv (clockAfter (st .clock) (timeOf (a .call)) x) (slotAt (slotsAfter (st .slots) x)) (countsBy (a .call) (a .datagram) (outcomeOf x) (replyAfter (a .reply) x) ∷ h)
+      Inv (clockOf (stateAfter st x)) (slotAt (stateAfter st x .slots)) (countsBy (a .call) (a .datagram) (outcomeOf x) (replyAfter (a .reply) x) ∷ h)
 
   inv-refused : (number : ℕ) → After (refuse number)
   inv-refused number = rw (refused-counts (a .call) (a .datagram) number (a .reply)) (keep-inv _ _ _ _ h nothing (le-refl _) I (quiet _ _))
 
-  inv-accepted : refusal (st .clock) (length (st .slots)) (length (a .datagram)) (length (a .reply)) (a .call) ≡ 0 → After (acceptedAct (a .call) (st .slots) (a .datagram))
+  inv-accepted : refusal (clockOf st) (lengths (length (st .slots)) (length (a .datagram)) (length (a .reply))) (a .call) ≡ 0 → After (accepted st (a .call) (a .datagram))
   inv-accepted e =
-      let w = not-refused (st .clock) (st .slots) (a .datagram) (a .reply) (a .call) e in
-      rw (clock-accepted (st .clock) (timeOf (a .call)) (a .call) (st .slots) (a .datagram))
-      (keep-inv _ (timeOf (a .call)) _ _ h _ (not-before _ _ _ _ (a .call) e) I (made (a .call) (st .slots) (a .datagram) (a .reply) (w .sixty-four) (a .call-fits) (a .bytes)))
+      let w = not-refused (clockOf st) (st .slots) (a .datagram) (a .reply) (a .call) e in
+      rw (clock-accepted st (a .call) (a .datagram))
+      (keep-inv _ (timeOf (a .call)) _ _ h _ (w .not-before) I (made (a .call) st (a .datagram) (a .reply) (w .sixty-four) (a .call-fits) (a .bytes)))
 
-  inv-call : Inv (next st a .clock) (slotAt (next st a .slots)) (countOf st a ∷ h)
+  inv-call : Inv (clockOf (next st a)) (slotAt (next st a .slots)) (countOf st a ∷ h)
   unfolding act
   inv-call = go (eqb number 0) refl
     where
       number : ℕ
-      number = refusal (st .clock) (length (st .slots)) (length (a .datagram)) (length (a .reply)) (a .call)
+      number = refusal (clockOf st) (lengths (length (st .slots)) (length (a .datagram)) (length (a .reply))) (a .call)
 
-      go : (b : Bool) → eqb number 0 ≡ b → After (pick b (acceptedAct (a .call) (st .slots) (a .datagram)) (refuse number))
+      go : (b : Bool) → eqb number 0 ≡ b → After (pick b (accepted st (a .call) (a .datagram)) (refuse number))
       go true e = inv-accepted (eqb-true number 0 e)
       go false e = inv-refused number
 
@@ -172,12 +159,12 @@ unfoldable pub history : List Arrival → List Counted
 history [] = []
 history (a ∷ past) = countOf (after past) a ∷ history past
 
-tie : (past : List Arrival) → Inv (after past .clock) (slotAt (after past .slots)) (history past)
+tie : (past : List Arrival) → Inv (clockOf (after past)) (slotAt (after past .slots)) (history past)
 unfolding after history
 tie [] = inv-empty
 tie (a ∷ past) = inv-call (after past) a (history past) (tie past)
 
-pub apart : (past : List Arrival) (t : ℕ) → after past .clock ≤ t → Apart (after past .slots) t
+pub apart : (past : List Arrival) (t : ℕ) → clockOf (after past) ≤ t → Apart (after past .slots) t
 apart past t le =
     let I : Inv t (slotAt (after past .slots)) (history past) = inv-later _ t _ _ le (tie past) in
     record {
@@ -201,7 +188,7 @@ module _ (l : List Slot) (t x p R : ℕ) (id : TransactionId) (s : List ℕ)
   call = record { time = t; source = record { address = V4 x; port = p }; port = R; id = id }
 
   arrives : Verdict l t R (V4 x) (rules.outcomeOf (peer-out call l s))
-  unfolding peer-out permitted
+  unfolding peer-out fromPeer permitted atOr
   arrives = go (find (inSlot (holdsPort t R)) l) refl
     where
       Sent : Slot → Out
@@ -218,13 +205,13 @@ module _ (l : List Slot) (t x p R : ℕ) (id : TransactionId) (s : List ℕ)
           (λ C r. let same : r .i ≡ k = one (r .i) k (r .live) (f .0) (r .port ∙ sym (f .1)) in has-permission← t (V4 x) _ q (rw same at (r .perm)))
 
       go : (f : Found) → find (inSlot (holdsPort t R)) l ≡ f
-          → Verdict l t R (V4 x) (rules.outcomeOf (pick (not (has f)) dropped (pick (not (has (find (permits t (V4 x)) (slotAt l (placeOf f) .permissions)))) dropped (Sent (slotAt l (placeOf f))))))
+          → Verdict l t R (V4 x) (rules.outcomeOf (pick (not (has f)) dropped (pick (not (has (find (permits t (V4 x)) (atOr freshSlot f l .permissions)))) dropped (Sent (atOr freshSlot f l)))))
       go Nothing e = to-none refl (λ C r. none-port t R l e (r .i) (r .live) (r .port))
       go (At k) e = at k e (has (find (permits t (V4 x)) (slotAt l k .permissions))) refl
 
 -- in a call that is not refused
 module _ (past : List Arrival) (a : Arrival) (R x t : ℕ) (from : FromIpv4 a R x t) (nr : (number : ℕ) → outcome (after past) a ≢ Refused number) where
-  reached : (after past .clock ≤ t) × Verdict (after past .slots) t R (V4 x) (outcome (after past) a)
+  reached : (clockOf (after past) ≤ t) × Verdict (after past .slots) t R (V4 x) (outcome (after past) a)
   unfolding act
   reached = rw (from .2) (go (eqb number 0) refl (rw (from .2) at nr))
     where
@@ -235,18 +222,18 @@ module _ (past : List Arrival) (a : Arrival) (R x t : ℕ) (from : FromIpv4 a R 
       c = Peer (record { time = t; source = record { address = V4 x; port = from .0 }; port = R; id = from .1 })
 
       number : ℕ
-      number = refusal (st .clock) (length (st .slots)) (length (a .datagram)) (length (a .reply)) c
+      number = refusal (clockOf st) (lengths (length (st .slots)) (length (a .datagram)) (length (a .reply))) c
 
       go : (b : Bool) → eqb number 0 ≡ b
-          → ((n : ℕ) → outcomeOf (pick b (acceptedAct c (st .slots) (a .datagram)) (refuse number)) ≢ Refused n)
-          → (st .clock ≤ t) × Verdict (st .slots) t R (V4 x) (outcomeOf (pick b (acceptedAct c (st .slots) (a .datagram)) (refuse number)))
+          → ((n : ℕ) → outcomeOf (pick b (accepted st c (a .datagram)) (refuse number)) ≢ Refused n)
+          → (clockOf st ≤ t) × Verdict (st .slots) t R (V4 x) (outcomeOf (pick b (accepted st c (a .datagram)) (refuse number)))
       go true e nr =
-          let le : st .clock ≤ t = not-before _ _ _ _ c (eqb-true number 0 e) in
-          (le, rw (peer-stays _ (st .slots) (a .datagram)) (arrives (st .slots) t x (from .0) R (from .1) (a .datagram) (apart past t le .ports)))
+          let le : clockOf st ≤ t = not-refused (clockOf st) (st .slots) (a .datagram) (a .reply) c (eqb-true number 0 e) .not-before in
+          (le, rw (peer-stays _ st (a .datagram)) (arrives (st .slots) t x (from .0) R (from .1) (a .datagram) (apart past t le .ports)))
       go false e nr = absurd (nr number refl)
 
   -- the table and the history agree on whom it reaches
-  says : (C : FiveTuple) → after past .clock ≤ t → Reach (slotAt (after past .slots)) C R (V4 x) t ↔ Delivers (history past) C R (V4 x) t
+  says : (C : FiveTuple) → clockOf (after past) ≤ t → Reach (slotAt (after past .slots)) C R (V4 x) t ↔ Delivers (history past) C R (V4 x) t
   says C le = (
     λ r. let g = reach→ _ _ _ (tie past) C R (V4 x) t le r in delivers← _ C R (V4 x) t (g .0) (g .1) (g .2),
     λ d. let g = delivers→ _ C R (V4 x) t d in reach← _ _ _ (tie past) C R (V4 x) t le (g .0) (g .1) (g .2),
@@ -259,7 +246,7 @@ module _ (past : List Arrival) (a : Arrival) (R x t : ℕ) (from : FromIpv4 a R 
   pub delivery : (C : FiveTuple) → ((n : ℕ) × (outcome (after past) a ≡ ToClient C n)) ↔ Delivers (history past) C R (V4 x) t
   delivery C = go (reached .0) (reached .1)
     where
-      go : after past .clock ≤ t → Verdict (after past .slots) t R (V4 x) (outcome (after past) a)
+      go : clockOf (after past) ≤ t → Verdict (after past .slots) t R (V4 x) (outcome (after past) a)
           → ((n : ℕ) × (outcome (after past) a ≡ ToClient C n)) ↔ Delivers (history past) C R (V4 x) t
       go le (reaches D n e r) =
           let d = says D le .0 r in (
@@ -278,6 +265,6 @@ module _ (past : List Arrival) (a : Arrival) (R x t : ℕ) (from : FromIpv4 a R 
   pub nobody : ((C : FiveTuple) → Delivers (history past) C R (V4 x) t → ⊥) → outcome (after past) a ≡ Dropped
   nobody none = go (reached .0) (reached .1)
     where
-      go : after past .clock ≤ t → Verdict (after past .slots) t R (V4 x) (outcome (after past) a) → outcome (after past) a ≡ Dropped
+      go : clockOf (after past) ≤ t → Verdict (after past .slots) t R (V4 x) (outcome (after past) a) → outcome (after past) a ≡ Dropped
       go le (reaches C n e r) = absurd (none C (says C le .0 r))
       go le (to-none e f) = e

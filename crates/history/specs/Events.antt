@@ -1,7 +1,7 @@
 -- Calls, the relay after them, and the events that they make: a call with the outcome and the reply that came back.
 use Prim.Native.Nat.{ℕ, _<_, _^_}
 use mathlib.Core.List.{List, [], _∷_, map}
-use lib.ListN.{length, take, replicate}
+use lib.ListN.{length, take}
 use Rattle.address.specs.declared.Address.{Address}
 use Rattle.address.specs.declared.FiveTuple.{FiveTuple}
 use Rattle.address.specs.declared.Peer.{Peer as Transport}
@@ -9,14 +9,14 @@ use Rattle.stun.specs.declared.kinds.Method.{Method}
 use Rattle.stun.specs.declared.kinds.Method.the-variants.{Allocate, Refresh, CreatePermission, ChannelBind}
 use Rattle.stun.specs.declared.values.AddressValue.{AddressValue}
 use Rattle.stun.specs.Values.{peers, firstPeer}
-use Rattle.table.specs.declared.Slot.{Slot}
-use Rattle.table.specs.Table.{freshSlot}
 use Rattle.rules.specs.declared.answer.Outcome.{Outcome}
 use Rattle.rules.specs.declared.answer.Outcome.the-variants.{Refused, Dropped, ToClient, ToPeer}
-use Rattle.relay.specs.declared.calls.Call.{Call}
-use Rattle.relay.specs.declared.calls.Call.the-variants.{Client, Peer}
-use Rattle.relay.specs.declared.calls.FromClient.{FromClient}
-use Rattle.relay.specs.Step.{timeOf, act, outcomeOf, replyAfter, slotsAfter, clockAfter}
+use Rattle.relay.specs.declared.incoming.Call.{Call}
+use Rattle.relay.specs.declared.incoming.Call.the-variants.{Client, Peer}
+use Rattle.relay.specs.declared.incoming.FromClient.{FromClient}
+use Rattle.relay.specs.State.{State}
+use Rattle.relay.specs.Outcomes.{Act, outcomeOf, replyAfter, stateAfter}
+use Rattle.relay.specs.Step.{act}
 use Rattle.client_reader.specs.declared.Message.{Message}
 use Rattle.client_reader.specs.declared.Message.the-variants.{AllocateSuccess, RefreshSuccess, BareSuccess, Error, UnknownAttributes, DataIndication, ChannelData, Nothing}
 use Rattle.client_reader.specs.Fields.{Bytes, IdFits, AddressFits}
@@ -43,25 +43,19 @@ pub record Arrival : Type 0 where
 
 -- ---- The relay
 
-pub record State : Type 0 where
-  pub clock : ℕ
-  pub slots : List Slot
+-- what a call does to the relay in that state
+abbrev pub acts : State → Arrival → Act
+acts st a = act st (a .call) (a .datagram) (length (a .reply))
 
--- 'An empty relay is a fresh one.'
-abbrev pub empty : State
-empty = record { clock = 0; slots = replicate 64 freshSlot }
-
--- a call's outcome, the first n bytes of its reply where it goes to a client, and the relay as the call leaves it
+-- its outcome, its reply buffer afterwards, and the relay as it leaves it
 abbrev pub outcome : State → Arrival → Outcome
-outcome st a = outcomeOf (act (st .clock) (st .slots) (a .call) (a .datagram) (length (a .reply)))
+outcome st a = outcomeOf (acts st a)
 
 abbrev pub replied : State → Arrival → List ℕ
-replied st a = replyAfter (a .reply) (act (st .clock) (st .slots) (a .call) (a .datagram) (length (a .reply)))
+replied st a = replyAfter (a .reply) (acts st a)
 
 abbrev pub next : State → Arrival → State
-next st a =
-    let done = act (st .clock) (st .slots) (a .call) (a .datagram) (length (a .reply)) in
-    record { clock = clockAfter (st .clock) (timeOf (a .call)) done; slots = slotsAfter (st .slots) done }
+next st a = stateAfter st (acts st a)
 
 -- 'each gets the relay as the last one left it'
 abbrev pub run : State → List Arrival → State

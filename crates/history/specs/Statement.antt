@@ -15,10 +15,11 @@ use lib.ListN.{getD}
 use Rattle.slots.specs.Slots.{slotAt}
 use Rattle.rules.specs.declared.answer.Outcome.{Outcome}
 use Rattle.rules.specs.declared.answer.Outcome.the-variants.{Refused, Dropped, ToClient}
-use Rattle.relay.specs.declared.calls.Call.the-variants.{Peer}
-use Rattle.relay.specs.declared.calls.FromPeer.{FromPeer}
+use Rattle.relay.specs.declared.incoming.Call.the-variants.{Peer}
+use Rattle.relay.specs.declared.incoming.FromPeer.{FromPeer}
 use Rattle.history.specs.Counted.{Counted, gave, kept, allowed}
-use Rattle.history.specs.Events.{Arrival, State, empty, outcome, run, events, counted}
+use Rattle.relay.specs.State.{empty, clockOf}
+use Rattle.history.specs.Events.{Arrival, outcome, run, events, counted}
 
 -- ---- The table
 
@@ -100,7 +101,7 @@ FromIpv4 a R x t = (p : ℕ) × (id : TransactionId) × (a .call ≡ Peer (recor
 
 pub record Demand3 (calls : List Arrival) : Type 0 where
   -- after these calls, 'at the stored clock and any later time'
-  pub apart : (t : ℕ) → run empty calls .clock ≤ t → Apart (run empty calls .slots) t
+  pub apart : (t : ℕ) → clockOf (run empty calls) ≤ t → Apart (run empty calls .slots) t
   -- 'a peer's datagram goes to client C exactly when the history of accepted requests says so'
   pub goes-to : (a : Arrival) (R x t : ℕ) → FromIpv4 a R x t → ((number : ℕ) → outcome (run empty calls) a ≢ Refused number)
       → (C : FiveTuple) → ((n : ℕ) × (outcome (run empty calls) a ≡ ToClient C n)) ↔ GoesTo (counted [] (events empty calls)) C R (V4 x) t

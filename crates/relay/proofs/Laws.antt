@@ -1,5 +1,5 @@
 -- The laws that the relay's proofs cite.
-use Prim.Native.Nat.{ℕ, zero, suc, _+_, _<_, _≤_, _^_}
+use Prim.Native.Nat.{ℕ, zero, suc, _+_, _-_, _<_, _≤_, _^_}
 use mathlib.Core.Path.{_≡_, refl, sym, ap, subst, _∙_}
 use mathlib.Core.Bool.{Bool, true, false, not, false≢true}
 use mathlib.Core.List.{List, [], _∷_}
@@ -7,44 +7,49 @@ use native.Mathlib.Nat.{zero-add}
 use native.Mathlib.Omega.{arith}
 use lib.Dec.{eqb, ltb, leb}
 use lib.ListN.{length, getD, set, take}
-use lib.Seq.{ext-getD, set-getD}
+use lib.Seq.{ext-getD}
 use borrow.Author.Tests.{eqb-true, ltb-false, not-true, not-false}
 use Rattle.wire.specs.Wire.{num, partOf}
+use Rattle.stun.specs.declared.kinds.Class.{Class}
+use Rattle.stun.specs.declared.kinds.Class.the-variants as Class
 use Rattle.stun.specs.Kinds.{messageKindOf}
 use Rattle.stun.specs.Message.{sorted, wellFormed}
 use Rattle.choice.specs.Choice.{pick}
-use Rattle.address.specs.declared.FiveTuple.{FiveTuple}
 use Rattle.table.specs.declared.Slot.{Slot}
 use Rattle.table.specs.declared.Found.{Found}
 use Rattle.table.specs.declared.Found.the-variants.{At, Nothing}
 use Rattle.table.specs.HeldPorts.{heldIn}
-use Rattle.table.specs.Search.{further, find, has}
-use Rattle.table.specs.Table.{freshSlot, holdsPort}
+use Rattle.table.specs.Search.{find, has, atOr}
+use Rattle.table.specs.Table.{freshSlot, holds, holdsPort}
 use Rattle.table.proofs.Bits as Bits
-use Rattle.slots.specs.Slots.{slotAt, inSlot, keyed, searched, lapsed, Surveyed}
-use Rattle.slots.specs.declared.keys.Key.{Key}
+use Rattle.slots.specs.Slots.{inSlot, keyed, lapsed, Surveyed, Looked, placeOf, Within}
+use Rattle.slots.specs.declared.keys.Wanted.{Wanted}
 use Rattle.slots.specs.declared.surveys.Survey.{Survey}
+use Rattle.slots.proofs.Laws.{found-within, own-within, place-there}
 use Rattle.rules.specs.declared.answer.Answer.{Answer}
 use Rattle.rules.specs.declared.answer.Outcome.{Outcome}
-use Rattle.rules.specs.declared.requests.Survey.{Survey as Asked}
-use Rattle.rules.specs.Act.{Out, Change, keep, write, Answers}
 use Rattle.rules.specs.declared.answer.Outcome.the-variants.{Refused}
-use Rattle.rules.specs.Requests.{allocate, portFor}
-use Rattle.rules.specs.Client.{allocateKind, stunClass, isAllocate}
+use Rattle.rules.specs.declared.client.Asked.{Asked}
+use Rattle.rules.specs.declared.client.Asked.the-variants as Asked
+use Rattle.rules.specs.declared.requests.Survey.{Survey as AllocateSurvey}
+use Rattle.rules.specs.Act.{Out, Change, keep, write, outOf, outcomeOf, replyAfter, writes, slotAfter, Gives, Answers}
+use Rattle.rules.specs.Requests.{allocate, refresh, createPermission, channelBind, portFor}
+use Rattle.rules.specs.Data.{send, channelled}
+use Rattle.rules.specs.Client.{kindAsks, classAsks, askedBy}
+use Rattle.rules.proofs.Accepted.{allocates as allocate-accepted, refreshes, permits, binds}
 use Rattle.rules.proofs.Laws.{well-formed-long}
-use Rattle.relay.specs.declared.calls.Call.{Call}
-use Rattle.relay.specs.declared.calls.Call.the-variants.{Client, Peer}
-use Rattle.relay.specs.declared.calls.FromClient.{FromClient}
-use Rattle.relay.specs.declared.calls.FromPeer.{FromPeer}
-use Rattle.relay.specs.Step.{clockAfter, timeOf, refusal, place, ifFound, placeOf, portsHeld, asRules, surveyOf, allocateAct, keyOf, onFound, foundAct, allocates, clientOf, act, Acted, Stepped, ReadyClient, ReadyPeer, Ready}
-
--- ---- What is decided about the slot that was found: it is written only where one was
-pub found-answers : {was : Slot} {before after : List ℕ} {answer : Answer} (found : Found) (change : Change)
-    → ((slot : Slot) (out : Out) → change ≡ write slot out → has found ≡ true)
-    → Answers change was before after answer → Answers (ifFound found change) was before after answer
-found-answers (At k) change had w = w
-found-answers Nothing (keep out) had w = w
-found-answers Nothing (write slot out) had w = absurd (false≢true (had slot out refl))
+use Rattle.relay.specs.declared.incoming.Call.{Call}
+use Rattle.relay.specs.declared.incoming.Call.the-variants.{Client, Peer}
+use Rattle.relay.specs.declared.incoming.FromClient.{FromClient}
+use Rattle.relay.specs.declared.incoming.FromPeer.{FromPeer}
+use Rattle.relay.specs.declared.refusals.Lengths.{Lengths}
+use Rattle.relay.specs.declared.deciding.Seen.{Seen}
+use Rattle.relay.specs.declared.state.Bookkeeping.{Bookkeeping}
+use Rattle.relay.specs.State.{State, state, freshBookkeeping, atClock, atTime, withSlots}
+use Rattle.relay.specs.Outcomes.{Act, accept, Does}
+use Rattle.relay.specs.Refusals.{timeOf, lengths, refusal}
+use Rattle.relay.specs.Step.{portsHeld, asRules, surveyOf, aboutFound, aboutOwn, onAsked, decided, done, accepted, act, Stepped}
+use Rattle.relay.specs.Inner.{ReadyClient, ReadyPeer, Ready, UserFits, askedFor, allocates, wantedBy, saw, Saw, placeFor, placeIn, unwritten, WroteBack, Answered}
 
 -- ---- A call that is not refused
 pub ready-client : {call : Call} {client : FromClient} {datagram reply : List ℕ} → call ≡ Client client → Ready call datagram reply
@@ -54,34 +59,26 @@ ready-client {call} {client} {datagram} {reply} e r = subst (λ (x : Call). Read
 pub ready-peer : {call : Call} {peer : FromPeer} {datagram reply : List ℕ} → call ≡ Peer peer → Ready call datagram reply → ReadyPeer peer datagram reply
 ready-peer {call} {peer} {datagram} {reply} e r = subst (λ (x : Call). Ready x datagram reply) e r
 
+pub user-fits : {client : FromClient} (call : Call) → call ≡ Client client → UserFits call → client .user ≤ 32
+user-fits call e r = subst UserFits e r
+
+pub ready-user : (call : Call) (datagram reply : List ℕ) → Ready call datagram reply → UserFits call
+ready-user (Client c) datagram reply r = r .user
+ready-user (Peer c) datagram reply r = tt
+
 -- where the checks give no number, this one did not apply, and the rest give none
 none-of : (b : Bool) (c rest : ℕ) → pick b (suc c) rest ≡ 0 → (b ≡ false) × (rest ≡ 0)
 none-of true c rest e = let y : ⊥ = omega (arith, e) in absurd y
 none-of false c rest e = (refl, e)
 
--- an Allocate request has a header
-allocate-long : (s : List ℕ) → isAllocate s ≡ true → 20 ≤ length s
-unfolding isAllocate
-allocate-long s e = well-formed-long s (go (stunClass (sorted s)) (wellFormed s) (allocateKind (messageKindOf (num s 0 2))) e)
-  where
-    go : (a b c : Bool) → pick a (pick b c false) false ≡ true → b ≡ true
-    go true true c e = refl
-    go true false c e = e
-    go false true c e = refl
-    go false false c e = e
-
 -- what a call that is not refused has
-pub record Accepted (call : Call) (slots : List Slot) (s reply : List ℕ) : Type 0 where
+pub record Accepted (clock : ℕ) (call : Call) (slots : List Slot) (s reply : List ℕ) : Type 0 where
   pub sixty-four : length slots ≡ 64
   pub ready : Ready call s reply
-  pub allocate : allocates call s ≡ true → ReadyClient (clientOf call) s reply × (20 ≤ length s)
+  pub not-before : clock ≤ timeOf call
 
-pub accepts : (clock slots s reply : ℕ) (call : Call) {number : ℕ} → number ≡ refusal clock slots s reply call → not (eqb number 0) ≡ false
-    → refusal clock slots s reply call ≡ 0
-accepts clock slots s reply call {number} e n = sym e ∙ eqb-true number 0 (not-false (eqb number 0) n)
-
-pub not-refused : (clock : ℕ) (slots : List Slot) (s reply : List ℕ) (call : Call) → refusal clock (length slots) (length s) (length reply) call ≡ 0
-    → Accepted call slots s reply
+pub not-refused : (clock : ℕ) (slots : List Slot) (s reply : List ℕ) (call : Call) → refusal clock (lengths (length slots) (length s) (length reply)) call ≡ 0
+    → Accepted clock call slots s reply
 unfolding refusal
 not-refused clock slots s reply (Client c) e =
     let a = none-of (ltb (length reply) 1536) 2 _ e in
@@ -90,21 +87,55 @@ not-refused clock slots s reply (Client c) e =
     let f = none-of (not (eqb (c .«five_tuple» .protocol) 17)) 6 _ (d .1) in
     let g = none-of (ltb 32 (c .user)) 4 _ (f .1) in
     let h = none-of (ltb (2 ^ 40) (c .time)) 1 _ (g .1) in
-    let ready : ReadyClient c s reply = record { room = ltb-false (length reply) 1536 (a .0); soon = ltb-false (2 ^ 40) (c .time) (h .0); user = ltb-false 32 (c .user) (g .0) } in
-    record { sixty-four = eqb-true (length slots) 64 (not-false _ (b .0)); ready = ready; allocate = λ y. (ready, allocate-long s y) }
+    let i = none-of (ltb (c .time) clock) 0 0 (h .1) in
+    record {
+      sixty-four = eqb-true (length slots) 64 (not-false _ (b .0));
+      ready = record { room = ltb-false (length reply) 1536 (a .0); soon = ltb-false (2 ^ 40) (c .time) (h .0); user = ltb-false 32 (c .user) (g .0) };
+      not-before = ltb-false (c .time) clock (i .0);
+    }
 not-refused clock slots s reply (Peer c) e =
     let a = none-of (ltb (length reply) 1536) 2 _ e in
     let b = none-of (not (eqb (length slots) 64)) 5 _ (a .1) in
     let d = none-of (ltb 1500 (length s)) 3 _ (b .1) in
+    let h = none-of (ltb (2 ^ 40) (c .time)) 1 _ (d .1) in
+    let i = none-of (ltb (c .time) clock) 0 0 (h .1) in
     record {
       sixty-four = eqb-true (length slots) 64 (not-false _ (b .0));
       ready = record { room = ltb-false (length reply) 1536 (a .0); short = ltb-false 1500 (length s) (d .0) };
-      allocate = λ y. absurd (false≢true y);
+      not-before = ltb-false (c .time) clock (i .0);
     }
 
-pub client-accepted : {call : Call} {slots : List Slot} {s reply : List ℕ} {client : FromClient} → Accepted call slots s reply → allocates call s ≡ true → client ≡ clientOf call
-    → ReadyClient client s reply × (20 ≤ length s)
-client-accepted {s = s} {reply = reply} w y c = subst (λ (x : FromClient). ReadyClient x s reply × (20 ≤ length s)) (sym c) (w .allocate y)
+-- a STUN message has a header
+abbrev pub isStun : Asked → Bool
+isStun Asked.Allocate = true
+isStun Asked.Refresh = true
+isStun Asked.CreatePermission = true
+isStun Asked.ChannelBind = true
+isStun Asked.Send = true
+isStun Asked.ChannelData = false
+isStun Asked.Nothing = false
+
+pub stun-long : (s : List ℕ) {asked : Asked} (it : Asked) → isStun it ≡ true → asked ≡ it → asked ≡ askedBy s → 20 ≤ length s
+unfolding askedBy
+stun-long s {asked} it y i e = go (sorted s) e
+  where
+    never : {other : Asked} → isStun other ≡ false → asked ≡ other → 20 ≤ length s
+    never n q = absurd (false≢true (sym n ∙ ap isStun (sym q ∙ i) ∙ y))
+
+    formed : (b : Bool) → wellFormed s ≡ b → asked ≡ pick b (kindAsks (messageKindOf (num s 0 2))) Asked.Nothing → 20 ≤ length s
+    formed true w q = well-formed-long s w
+    formed false w q = never refl q
+
+    go : (c : Class) → asked ≡ classAsks s c → 20 ≤ length s
+    go Class.Stun q = formed (wellFormed s) refl q
+    go Class.ChannelData q = never refl q
+    go Class.Neither q = never refl q
+
+pub client-asked : {call : Call} {client : FromClient} {asked : Asked} (s : List ℕ) → call ≡ Client client → asked ≡ askedFor call s → asked ≡ askedBy s
+client-asked {call} {client} {asked} s e q = subst (λ (x : Call). asked ≡ askedFor x s) e q
+
+pub peer-asked : {call : Call} {peer : FromPeer} {asked : Asked} (s : List ℕ) → call ≡ Peer peer → asked ≡ askedFor call s → asked ≡ Asked.Nothing
+peer-asked {call} {peer} {asked} s e q = subst (λ (x : Call). asked ≡ askedFor x s) e q
 
 -- ---- The ports held, from the survey of the slots
 pub length-held : (time : ℕ) (slots : List Slot) (k n : ℕ) → length (portsHeld time slots k n) ≡ n
@@ -121,133 +152,256 @@ held-at time slots k (suc n) (suc i) h =
     held-at time slots (suc k) n i (omega arith)
     ∙ ap (λ (j : ℕ). has (find (inSlot (holdsPort time (49152 + j))) slots)) (let z : suc k + i ≡ k + suc i = omega arith in z)
 
-ports-held : {time user : ℕ} {fiveTuple : FiveTuple} {slots : List Slot} {survey : Survey} → Surveyed slots time fiveTuple user survey
-    → heldIn (survey .ports) ≡ portsHeld time slots 0 128
-ports-held {time} {user} {fiveTuple} {slots} {survey} w =
+ports-held : {wanted : Wanted} {slots : List Slot} {survey : Survey} → Surveyed slots wanted survey
+    → heldIn (survey .ports) ≡ portsHeld (wanted .time) slots 0 128
+ports-held {wanted} {slots} {survey} w =
     let width = Bits.length-held (survey .ports) in
-    ext-getD false (heldIn (survey .ports)) (portsHeld time slots 0 128) (width ∙ sym (length-held time slots 0 128))
-    (λ i h. w .ports i (rw width at h) ∙ sym (rw zero-add at (held-at time slots 0 128 i (rw width at h))))
+    ext-getD false (heldIn (survey .ports)) (portsHeld (wanted .time) slots 0 128) (width ∙ sym (length-held (wanted .time) slots 0 128))
+    (λ i h. w .ports i (rw width at h) ∙ sym (rw zero-add at (held-at (wanted .time) slots 0 128 i (rw width at h))))
 
-pub surveyed : (call : FromClient) {slots : List Slot} {survey : Survey} {free : Bool} {port : ℕ} → Surveyed slots (call .time) (call .«five_tuple») (call .user) survey
-    → free ≡ has (survey .free) → port ≡ portFor (heldIn (survey .ports)) (call .start)
-    → _≡_ {A = Asked} (record { own = survey .own; held = survey .held; free = free; port = port }) (surveyOf call slots)
-surveyed call {slots} {survey} w f p =
+-- what Allocate asks of the whole table, from a look over it
+pub surveyed : (call : FromClient) {slots : List Slot} {survey : Survey} {own free : Bool} {port : ℕ}
+    → Surveyed slots (wantedBy (Client call) (Asked.Allocate)) survey → own ≡ has (survey .own) → free ≡ has (survey .free)
+    → port ≡ portFor (heldIn (survey .ports)) (call .start)
+    → _≡_ {A = AllocateSurvey} (record { own = own; held = survey .held; free = free; port = port }) (surveyOf call slots)
+unfolding keyed
+surveyed call {slots} {survey} w o f p =
     let q = p ∙ ap (λ (l : List Bool). portFor l (call .start)) (ports-held w) in
     let g = f ∙ ap has (w .free) in
-    λ i. record { own = w .own i; held = w .held i; free = g i; port = q i }
+    let h = o ∙ ap has (w .own) in
+    λ i. record { own = h i; held = w .held i; free = g i; port = q i }
 
--- ---- A slot was found, decided about and written back
-placed : (slots : List Slot) (k : ℕ) {before after : List ℕ} {answer : Answer} (change : Change) → Answers change (slotAt slots k) before after answer
-    → Acted (place k change) (answer .outcome) slots (set slots k (answer .slot)) before after
-placed slots k (keep out) w =
-    record { outcome-is = w .outcome; slots-are = ap (set slots k) (w .slot) ∙ set-getD slots k freshSlot; reply-is = w .reply }
-placed slots k (write slot out) w = record { outcome-is = w .outcome; slots-are = ap (set slots k) (w .slot); reply-is = w .reply }
+-- ---- What is decided about the slot that was found
 
--- the slot that was found lies in the table
-found-in : (passes : Slot → Bool) (slots : List Slot) (i : ℕ) → find passes slots ≡ At i → i < length slots
-unfolding find
-found-in passes [] i e = let z : _≡_ {A = ℕ} 0 1 = cc in omega arith
-found-in passes (x ∷ l) i e = go (passes x) (find passes l) refl e (found-in passes l)
-  where
-    go : (b : Bool) (f : Found) → find passes l ≡ f → pick b (At zero) (further f) ≡ At i → ((j : ℕ) → find passes l ≡ At j → j < length l) → i < suc (length l)
-    go true f q e ih = let z : 0 ≡ i = cc in omega arith
-    go false (At j) q e ih = let z : suc j ≡ i = cc in let y = ih j q in omega arith
-    go false Nothing q e ih = let z : _≡_ {A = ℕ} 0 1 = cc in omega arith
+-- a request about the caller's own slot
+module _ (call : FromClient) (asked : Asked) {survey : Survey} {own : Slot} {reply reply′ : List ℕ} {answer : Answer} {there : Bool} (h : there ≡ has (survey .own)) where
+  pub own-answers : (rule : Bool → Slot → Change) → Answers (rule there own) own reply reply′ answer
+      → (slots : List Slot) → Looked slots (wantedBy (Client call) asked) survey → own ≡ atOr freshSlot (survey .own) slots
+      → Answers (aboutOwn call slots rule .change) own reply reply′ answer
+  unfolding keyed
+  own-answers rule w slots l e =
+      subst (λ (f : Found). Answers (rule (has f) (atOr freshSlot f slots)) own reply reply′ answer) (l .own)
+      (subst (λ (x : Slot). Answers (rule (has (survey .own)) x) own reply reply′ answer) e
+      (subst (λ (b : Bool). Answers (rule b own) own reply reply′ answer) h w))
 
-within : (passes : Slot → Bool) (slots : List Slot) → 0 < length slots → placeOf (find passes slots) < length slots
-within passes slots h = go (find passes slots) refl
-  where
-    go : (f : Found) → find passes slots ≡ f → placeOf f < length slots
-    go (At i) e = found-in passes slots i e
-    go Nothing e = h
+-- what is given out and keeps the slot
+pub data-answers : {out : Out} {outcome : Outcome} (own : Slot) {reply reply′ : List ℕ} → Gives out reply reply′ outcome → Answers (keep out) own reply reply′ (unwritten outcome own)
+data-answers own g = record { gives = g; writes = refl; slot = refl }
 
--- ---- The functions over the lent slots
+pub quiet-gives : {out : Out} {outcome : Outcome} (reply : List ℕ) → outcome ≡ outcomeOf out → replyAfter reply out ≡ reply → Gives out reply reply outcome
+quiet-gives reply e r = record { outcome-is = e; reply-is = sym r }
 
--- what the search found, and that it lies in the table
-pub found-searched : (call : Call) (slots : List Slot) {time : ℕ} {key : Key} {found : Found} → time ≡ timeOf call → key ≡ keyOf call → found ≡ searched time key slots
-    → found ≡ searched (timeOf call) (keyOf call) slots
-found-searched call slots {time} {key} {found} t k f = f ∙ ap (λ (u : ℕ). searched u key slots) t ∙ ap (λ (y : Key). searched (timeOf call) y slots) k
+pub peer-answers : (call : FromPeer) {survey : Survey} {own : Slot} {reply reply′ : List ℕ} {outcome : Outcome} {there : Bool} → there ≡ has (survey .own)
+    → (rule : Bool → Slot → Out) → Gives (rule there own) reply reply′ outcome
+    → (slots : List Slot) → Looked slots (wantedBy (Peer call) Asked.Nothing) survey → own ≡ atOr freshSlot (survey .own) slots
+    → Answers (aboutFound slots (find (inSlot (holdsPort (call .time) (call .port))) slots) (λ b slot. keep (rule b slot)) .change) own reply reply′ (unwritten outcome own)
+unfolding keyed
+peer-answers call {survey} {own} {reply} {reply′} {outcome} {there} h rule g slots l e =
+    subst (λ (f : Found). Answers (keep (rule (has f) (atOr freshSlot f slots))) own reply reply′ (unwritten outcome own)) (l .own)
+    (subst (λ (x : Slot). Answers (keep (rule (has (survey .own)) x)) own reply reply′ (unwritten outcome own)) e
+    (subst (λ (b : Bool). Answers (keep (rule b own)) own reply reply′ (unwritten outcome own)) h (data-answers own g)))
 
-pub found-within : (call : Call) (slots : List Slot) {k : ℕ} {found : Found} → length slots ≡ 64 → found ≡ searched (timeOf call) (keyOf call) slots → k ≡ placeOf found
-    → k < length slots
-found-within call slots {k} {found} n f p = rw (p, f) (within (inSlot (keyed (timeOf call) (keyOf call))) slots (omega (arith, n)))
+-- a slot is written only where one was found
+module _ (call : FromClient) (s : List ℕ) (slots : List Slot) where
+  never : {o out : Out} {slot : Slot} {A : Type 0} → keep o ≡ write slot out → A
+  never q = let z : _≡_ {A = ℕ} 0 1 = cc in let y : ⊥ = omega arith in absurd y
 
--- a call other than Allocate
-pub found-acted : (call : Call) (s : List ℕ) {slots slots′ : List Slot} {found : Found} {k : ℕ} {was slot : Slot} {before after : List ℕ} {answer : Answer} {outcome : Outcome}
-    → found ≡ searched (timeOf call) (keyOf call) slots → k ≡ placeOf found → was ≡ slotAt slots k
-    → Answers (ifFound found (onFound call s (has found) was)) was before after answer → slot ≡ answer .slot → slots′ ≡ set slots k slot → outcome ≡ answer .outcome
-    → Acted (foundAct call slots s) outcome slots slots′ before after
-unfolding foundAct
-found-acted call s {slots} {slots′} {found} {k} {was} {slot} {before} {after} {answer} {outcome} f p q w c e o =
-    rw (← f, ← p, e, c, o) (placed slots k (ifFound found (onFound call s (has found) (slotAt slots k))) (rw q at w))
+  asked-writes : (asked : Asked) (slot : Slot) (out : Out) → onAsked call s slots asked .change ≡ write slot out → has (onAsked call s slots asked .place) ≡ true
+  asked-writes Asked.Allocate slot out e = allocate-accepted (asRules call) s slot out (surveyOf call slots) e .room
+  asked-writes Asked.Refresh slot out e = refreshes (asRules call) s slot out _ _ e .owner .live
+  asked-writes Asked.CreatePermission slot out e = permits (asRules call) s slot out _ _ e .owner .live
+  asked-writes Asked.ChannelBind slot out e = binds (asRules call) s slot out _ _ e .owner .live
+  asked-writes Asked.Send slot out e = never e
+  asked-writes Asked.ChannelData slot out e = never e
+  asked-writes Asked.Nothing slot out e = never e
 
--- what the survey found, and that the slot that isn't live lies in the table
-pub call-surveyed : (call : FromClient) (slots : List Slot) {time user : ℕ} {fiveTuple : FiveTuple} {survey : Survey} → time ≡ call .time → fiveTuple ≡ call .«five_tuple»
-    → user ≡ call .user → Surveyed slots time fiveTuple user survey → Surveyed slots (call .time) (call .«five_tuple») (call .user) survey
-call-surveyed call slots t f u w = rw (← t, ← f, ← u) w
-
-pub free-within : (slots : List Slot) {time user k : ℕ} {fiveTuple : FiveTuple} {survey : Survey} → length slots ≡ 64 → Surveyed slots time fiveTuple user survey
-    → k ≡ placeOf (survey .free) → k < length slots
-free-within slots {time} {user} {k} {fiveTuple} {survey} n w p = rw (p, w .free) (within (inSlot (lapsed time)) slots (omega (arith, n)))
-
--- Allocate
-pub allocate-acted : (call : FromClient) (s : List ℕ) {slots slots′ : List Slot} {survey : Survey} {k : ℕ} {was slot : Slot} {before after : List ℕ} {answer : Answer} {outcome : Outcome}
-    → Surveyed slots (call .time) (call .«five_tuple») (call .user) survey → k ≡ placeOf (survey .free) → was ≡ slotAt slots k
-    → ((l : List Slot) → Surveyed l (call .time) (call .«five_tuple») (call .user) survey
-    → Answers (ifFound (survey .free) (allocate (asRules call) s (surveyOf call l))) was before after answer)
-    → slot ≡ answer .slot → slots′ ≡ set slots k slot → outcome ≡ answer .outcome → Acted (allocateAct call slots s) outcome slots slots′ before after
-unfolding allocateAct
-allocate-acted call s {slots} {slots′} {survey} {k} {was} {slot} {before} {after} {answer} {outcome} y p q w c e o =
-    let free = find (inSlot (lapsed (call .time))) slots in
-    let k-is : k ≡ placeOf free = p ∙ ap placeOf (y .free) in
-    rw (← k-is, e, c, o) (placed slots k (ifFound free (allocate (asRules call) s (surveyOf call slots))) (rw (q, y .free) at (w slots y)))
+pub decided-writes : (call : Call) (s : List ℕ) (slots : List Slot) (slot : Slot) (out : Out) → decided call s slots .change ≡ write slot out → has (decided call s slots .place) ≡ true
+unfolding decided
+decided-writes (Client call) s slots slot out e = asked-writes call s slots (askedBy s) slot out e
+decided-writes (Peer call) s slots slot out e = let z : _≡_ {A = ℕ} 0 1 = cc in let y : ⊥ = omega arith in absurd y
 
 -- ---- The step
 
 -- refused: everything as it was
-pub refused-step : (clock : ℕ) (slots : List Slot) (call : Call) (s reply : List ℕ) {number : ℕ} → number ≡ refusal clock (length slots) (length s) (length reply) call
-    → not (eqb number 0) ≡ true → Stepped (act clock slots call s (length reply)) (timeOf call) (Refused number) slots slots clock clock reply reply
+pub refused-step : (slots : List Slot) (kept : Bookkeeping) (call : Call) (s reply : List ℕ) {l : Lengths} {number : ℕ} → l ≡ lengths (length slots) (length s) (length reply)
+    → number ≡ refusal (kept .clock) l call → not (eqb number 0) ≡ true → Stepped (state slots kept) call s (Refused number) (state slots kept) reply reply
 unfolding act
-refused-step clock slots call s reply {number} e n =
-    rw (← e, not-true (eqb number 0) n) (record { acted = record { outcome-is = refl; slots-are = refl; reply-is = refl }; clock-is = refl })
+refused-step slots kept call s reply {l} {number} e f n =
+    let q : number ≡ refusal (kept .clock) (lengths (length slots) (length s) (length reply)) call = f ∙ ap (λ (x : Lengths). refusal (kept .clock) x call) e in
+    let shut : eqb (refusal (kept .clock) (lengths (length slots) (length s) (length reply)) call) 0 ≡ false = ap (λ (x : ℕ). eqb x 0) (sym q) ∙ not-true (eqb number 0) n in
+    record { outcome-is = rw (shut) (ap Refused q); state-is = rw (shut); reply-is = rw (shut) }
 
--- an act that is not a refusal sets the clock
-clock-set : (clock time k : ℕ) (change : Change) → clockAfter clock time (place k change) ≡ time
-clock-set clock time k (keep out) = refl
-clock-set clock time k (write slot out) = refl
+-- a call that is not refused: it is accepted
+pub none-refused : (slots : List Slot) (kept : Bookkeeping) (call : Call) (s reply : List ℕ) {l : Lengths} {number : ℕ} → l ≡ lengths (length slots) (length s) (length reply)
+    → number ≡ refusal (kept .clock) l call → not (eqb number 0) ≡ false → refusal (kept .clock) (lengths (length slots) (length s) (length reply)) call ≡ 0
+none-refused slots kept call s reply {l} {number} e f n =
+    ap (λ (x : Lengths). refusal (kept .clock) x call) (sym e) ∙ sym f ∙ eqb-true number 0 (not-false (eqb number 0) n)
 
-pub allocate-clock : (clock time : ℕ) (call : FromClient) (slots : List Slot) (s : List ℕ) → clockAfter clock time (allocateAct call slots s) ≡ time
-unfolding allocateAct
-allocate-clock clock time call slots s =
-    let free = find (inSlot (lapsed (call .time))) slots in
-    clock-set clock time (placeOf free) (ifFound free (allocate (asRules call) s (surveyOf call slots)))
+pub accepted-step : (slots : List Slot) (kept : Bookkeeping) (call : Call) (s reply : List ℕ) {outcome : Outcome} {after : State} {reply′ : List ℕ}
+    → refusal (kept .clock) (lengths (length slots) (length s) (length reply)) call ≡ 0 → Does (accepted (state slots kept) call s) (state slots kept) outcome after reply reply′
+    → Stepped (state slots kept) call s outcome after reply reply′
+unfolding act
+accepted-step slots kept call s reply e w = rw e w
 
-pub found-clock : (clock time : ℕ) (call : Call) (slots : List Slot) (s : List ℕ) → clockAfter clock time (foundAct call slots s) ≡ time
-unfolding foundAct
-found-clock clock time call slots s =
-    let found = searched (timeOf call) (keyOf call) slots in
-    clock-set clock time (placeOf found) (ifFound found (onFound call s (has found) (slotAt slots (placeOf found))))
+-- the look that a call asks for is one over its table
+pub looked-for : (call : Call) (slots : List Slot) (s : List ℕ) {asked : Asked} {wanted : Wanted} {survey : Survey} {seen : Seen} → asked ≡ askedFor call s → wanted ≡ wantedBy call asked
+    → Looked slots wanted survey → seen ≡ saw asked survey → Saw slots call s seen
+looked-for call slots s {asked} {wanted} {survey} {seen} a w l e =
+    rw e (record { asked = a; looked = subst (λ (x : Wanted). Looked slots x survey) w l })
 
--- Allocate, and every other call, once it is not refused
-module _ (clock : ℕ) (slots : List Slot) (call : Call) (s reply : List ℕ) {slots′ : List Slot} {reply′ : List ℕ} {outcome : Outcome} {time : ℕ}
-    (accepted : refusal clock (length slots) (length s) (length reply) call ≡ 0) (at-time : time ≡ timeOf call) where
-  pub allocate-step : {client : FromClient} → allocates call s ≡ true → client ≡ clientOf call → Acted (allocateAct client slots s) outcome slots slots′ reply reply′
-      → Stepped (act clock slots call s (length reply)) (timeOf call) outcome slots slots′ clock time reply reply′
-  unfolding act
-  allocate-step {client} y c w =
-      rw (accepted, y, ← c) (record { acted = w; clock-is = at-time ∙ sym (allocate-clock clock (timeOf call) client slots s) })
+-- the place of the slot that is written is the one that was decided about; only a request writes one
+asked-place : (call : FromClient) (s : List ℕ) (slots : List Slot) (asked : Asked) {survey : Survey} → Looked slots (wantedBy (Client call) asked) survey
+    → (slot : Slot) (out : Out) → onAsked call s slots asked .change ≡ write slot out → placeFor asked survey ≡ onAsked call s slots asked .place
+unfolding keyed
+asked-place call s slots Asked.Allocate l slot out e = l .room refl .free
+asked-place call s slots Asked.Refresh l slot out e = l .own
+asked-place call s slots Asked.CreatePermission l slot out e = l .own
+asked-place call s slots Asked.ChannelBind l slot out e = l .own
+asked-place call s slots Asked.Send l slot out e = never call s slots e
+asked-place call s slots Asked.ChannelData l slot out e = never call s slots e
+asked-place call s slots Asked.Nothing l slot out e = never call s slots e
 
-  pub found-step : allocates call s ≡ false → Acted (foundAct call slots s) outcome slots slots′ reply reply′
-      → Stepped (act clock slots call s (length reply)) (timeOf call) outcome slots slots′ clock time reply reply′
-  unfolding act
-  found-step n w = rw (accepted, n) (record { acted = w; clock-is = at-time ∙ sym (found-clock clock (timeOf call) call slots s) })
+places : (call : Call) (s : List ℕ) (slots : List Slot) {asked : Asked} {survey : Survey} → asked ≡ askedFor call s → Looked slots (wantedBy call asked) survey
+    → (slot : Slot) (out : Out) → decided call s slots .change ≡ write slot out → placeFor asked survey ≡ decided call s slots .place
+unfolding decided
+places (Client call) s slots {asked} {survey} a l slot out e =
+    subst (λ (x : Asked). placeFor x survey ≡ onAsked call s slots (askedBy s) .place) (sym a)
+    (asked-place call s slots (askedBy s) (subst (λ (x : Asked). Looked slots (wantedBy (Client call) x) survey) a l) slot out e)
+places (Peer call) s slots a l slot out e = let z : _≡_ {A = ℕ} 0 1 = cc in let y : ⊥ = omega arith in absurd y
 
--- the step of a call that was made from its parts
-pub made-step : (s : List ℕ) (n : ℕ) {clock clock′ : ℕ} {slots slots′ : List Slot} {call made : Call} {reply reply′ : List ℕ} {outcome : Outcome} → made ≡ call
-    → Stepped (act clock slots made s n) (timeOf made) outcome slots slots′ clock clock′ reply reply′
-    → Stepped (act clock slots call s n) (timeOf call) outcome slots slots′ clock clock′ reply reply′
-made-step s n {clock} {clock′} {slots} {slots′} {call} {made} {reply} {reply′} {outcome} e w =
-    subst (λ (c : Call). Stepped (act clock slots c s n) (timeOf c) outcome slots slots′ clock clock′ reply reply′) e w
+-- the slot that is decided about lies in the table
+decided-within : (call : Call) (s : List ℕ) (slots : List Slot) → Within (decided call s slots .place) (length slots)
+unfolding decided
+decided-within call s slots = go call
+  where
+    own : (c : FromClient) → Within (find (inSlot (holds (c .time) (c .«five_tuple»))) slots) (length slots)
+    own c = found-within (inSlot (holds (c .time) (c .«five_tuple»))) slots _ refl
+
+    asks : (c : FromClient) (x : Asked) → Within (onAsked c s slots x .place) (length slots)
+    asks c Asked.Allocate = found-within (inSlot (lapsed (c .time))) slots _ refl
+    asks c Asked.Refresh = own c
+    asks c Asked.CreatePermission = own c
+    asks c Asked.ChannelBind = own c
+    asks c Asked.Send = own c
+    asks c Asked.ChannelData = own c
+    asks c Asked.Nothing = tt
+
+    go : (x : Call) → Within (decided x s slots .place) (length slots)
+    go (Client c) = asks c (askedBy s)
+    go (Peer c) = found-within (inSlot (holdsPort (c .time) (c .port))) slots _ refl
+
+-- what was decided, as a change that keeps or writes
+keeps-out : (change : Change) {b : Bool} → b ≡ writes change → not b ≡ true → change ≡ keep (outOf change)
+keeps-out (keep out) e n = refl
+keeps-out (write slot out) e n = absurd (false≢true (sym (ap not e) ∙ n))
+
+record Writing (change : Change) : Type 0 where
+  slot : Slot
+  out : Out
+  is : change ≡ write slot out
+
+writing : (change : Change) {b : Bool} → b ≡ writes change → not b ≡ false → Writing change
+writing (keep out) e n = absurd (false≢true (sym n ∙ ap not e))
+writing (write slot out) e n = record { slot = slot; out = out; is = refl }
+
+-- the state after the act: the clock is set, and the slot where it is written
+kept-done : (st : State) (found : Found) (out : Out) → done st found (keep out) ≡ done st Nothing (keep out)
+kept-done st (At k) out = refl
+kept-done st Nothing out = refl
+
+written-done : (st : State) (found : Found) {k : ℕ} (slot : Slot) (out : Out) → has found ≡ true → k ≡ placeOf found
+    → done st found (write slot out) ≡ done st (At k) (write slot out)
+written-done st (At i) slot out h e = ap (λ (j : ℕ). done st (At j) (write slot out)) (sym e)
+written-done st Nothing slot out h e = absurd (false≢true h)
+
+module _ (slots : List Slot) (kept : Bookkeeping) (call : Call) (s reply : List ℕ) (asked : Asked) {reply′ : List ℕ} {survey : Survey} {own : Slot} {answer : Answer}
+    (looked : Looked slots (wantedBy call asked) survey) (w : Answers (decided call s slots .change) own reply reply′ answer) where
+  -- what is given out, once it is known what the act is
+  does : {after : State} {outcome : Outcome} (next : State) (out : Out) → accepted (state slots kept) call s ≡ accept next out
+      → outcome ≡ outcomeOf out → after ≡ next → reply′ ≡ replyAfter reply out → Does (accepted (state slots kept) call s) (state slots kept) outcome after reply reply′
+  does {after} {outcome} next out d o n r = record { outcome-is = rw d o; state-is = rw d n; reply-is = rw d r }
+
+  -- where nothing is written
+  kept-step : not (answer .writes) ≡ true → Does (accepted (state slots kept) call s) (state slots kept) (answer .outcome) (state slots (atClock (timeOf call) kept)) reply reply′
+  unfolding accepted
+  kept-step n =
+      let change = decided call s slots .change in
+      let out = outOf change in
+      let q : change ≡ keep out = keeps-out change (w .writes) n in
+      does (atTime (timeOf call) (state slots kept)) out
+      (ap (done (atTime (timeOf call) (state slots kept)) (decided call s slots .place)) q ∙ kept-done _ (decided call s slots .place) out)
+      (w .gives .outcome-is) refl (w .gives .reply-is)
+
+  -- where a slot is written
+  module _ (a : asked ≡ askedFor call s) (y : not (answer .writes) ≡ false) where
+    what : Writing (decided call s slots .change)
+    what = writing (decided call s slots .change) (w .writes) y
+
+    placed : placeFor asked survey ≡ decided call s slots .place
+    placed = places call s slots a looked (what .slot) (what .out) (what .is)
+
+    there : has (placeFor asked survey) ≡ true
+    there = ap has placed ∙ decided-writes call s slots (what .slot) (what .out) (what .is)
+
+    put-within : {k : ℕ} → k ≡ placeOf (placeFor asked survey) → k < length slots
+    put-within {k} p =
+        place-there slots (placeFor asked survey) refl there p (subst (λ (x : Found). Within x (length slots)) (sym placed) (decided-within call s slots))
+
+    written-step : {k : ℕ} → k ≡ placeOf (placeFor asked survey)
+        → Does (accepted (state slots kept) call s) (state slots kept) (answer .outcome) (state (set slots k (answer .slot)) (atClock (timeOf call) kept)) reply reply′
+    unfolding accepted
+    written-step {k} p =
+        let st = atTime (timeOf call) (state slots kept) in
+        let same : answer .slot ≡ what .slot = w .slot ∙ ap (slotAfter own) (what .is) in
+        does (withSlots (set slots k (what .slot)) st) (what .out)
+        (ap (λ (x : Change). done st (decided call s slots .place) x) (what .is)
+        ∙ ap (λ (x : Found). done st x (write (what .slot) (what .out))) (sym placed)
+        ∙ written-done st (placeFor asked survey) (what .slot) (what .out) there p)
+        (w .gives .outcome-is ∙ ap (λ (x : Change). outcomeOf (outOf x)) (what .is))
+        (ap (λ (x : Slot). state (set slots k x) (atClock (timeOf call) kept)) same)
+        (w .gives .reply-is ∙ ap (λ (x : Change). replyAfter reply (outOf x)) (what .is))
+
+-- the slot that was found
+pub seen-within : (slots : List Slot) {call : Call} {s : List ℕ} {seen : Seen} → Saw slots call s seen → Within (seen .survey .own) (length slots)
+seen-within slots w = own-within slots (w .looked)
+
+pub read-within : (slots : List Slot) (seen : Seen) {survey : Survey} → survey ≡ seen .survey → Within (seen .survey .own) (length slots) → Within (survey .own) (length slots)
+read-within slots seen e w = subst (λ (x : Survey). Within (x .own) (length slots)) (sym e) w
+
+pub own-same : (slots : List Slot) {survey survey′ : Survey} → survey ≡ survey′ → atOr freshSlot (survey .own) slots ≡ atOr freshSlot (survey′ .own) slots
+own-same slots e = ap (λ (x : Survey). atOr freshSlot (x .own) slots) e
+
+-- the slot that is written lies in the table, and it is written back
+module _ (slots : List Slot) (call : Call) (s reply : List ℕ) (seen : Seen) {reply′ : List ℕ} {own : Slot} {answer : Answer} (sees : Saw slots call s seen)
+    (w : Answers (decided call s slots .change) own reply reply′ answer) where
+  pub written-within : answer .writes ≡ true → placeIn seen < length slots
+  written-within y = put-within slots freshBookkeeping call s reply (seen .asked) (sees .looked) w (sees .asked) (ap not y) refl
+
+  pub answered : {slots′ : List Slot} {outcome : Outcome} → WroteBack seen answer outcome slots slots′ → Answered slots call s outcome slots′ reply reply′
+  answered {slots′} {outcome} b = record { does = λ kept. rw (b .slots-are, b .outcome-is) (go kept (answer .writes) refl) }
+    where
+      go : (kept : Bookkeeping) (b : Bool) → answer .writes ≡ b
+          → Does (accepted (state slots kept) call s) (state slots kept) (answer .outcome) (state (pick b (set slots (placeIn seen) (answer .slot)) slots) (atClock (timeOf call) kept)) reply reply′
+      go kept true y = written-step slots kept call s reply (seen .asked) (sees .looked) w (sees .asked) (ap not y) refl
+      go kept false n = kept-step slots kept call s reply (seen .asked) (sees .looked) w (ap not n)
+
+-- a slot is written back, or none
+module _ (slots : List Slot) (seen : Seen) (answer : Answer) {none : Bool} {outcome : Outcome} (e : none ≡ not (answer .writes)) (o : outcome ≡ answer .outcome) where
+  pub none-back : none ≡ true → WroteBack seen answer outcome slots slots
+  none-back y = record { outcome-is = o; slots-are = rw (not-true (answer .writes) (sym e ∙ y)) }
+
+  pub one-back : {k : ℕ} {slot : Slot} {slots′ : List Slot} → none ≡ false → k ≡ placeIn seen → slot ≡ answer .slot → slots′ ≡ set slots k slot
+      → WroteBack seen answer outcome slots slots′
+  one-back {k} {slot} n p c g = record {
+    outcome-is = o;
+    slots-are = rw (not-false (answer .writes) (sym e ∙ n)) (g ∙ ap (λ (j : ℕ). set slots j slot) p ∙ ap (set slots (placeIn seen)) c);
+  }
+
+-- a call that was answered, with the clock as it was set
+pub clock-set : {slots : List Slot} {kept kept′ : Bookkeeping} {call : Call} {s : List ℕ} {outcome : Outcome} {slots′ : List Slot} {reply reply′ : List ℕ} → kept′ ≡ atClock (timeOf call) kept
+    → Answered slots call s outcome slots′ reply reply′ → Does (accepted (state slots kept) call s) (state slots kept) outcome (state slots′ kept′) reply reply′
+clock-set {slots} {kept} {kept′} {call} {s} {outcome} {slots′} {reply} {reply′} e w =
+    subst (λ (b : Bookkeeping). Does (accepted (state slots kept) call s) (state slots kept) outcome (state slots′ b) reply reply′) (sym e) (w .does kept)
 
 -- ---- The parts that are sent
 pub part-first : (s : List ℕ) (len : ℕ) → partOf s 0 len ≡ pick (leb len (length s)) (take len s) []

@@ -1,3 +1,3 @@
 pub mod Laws
-pub mod Rows
 pub mod Marked
+pub mod Rows

@@ -33,40 +33,40 @@ use Rattle.table.specs.Table.{freshChannel, numbered}
 use Rattle.rules.specs.declared.answer.Outcome.{Outcome}
 use Rattle.rules.specs.declared.answer.Outcome.the-variants.{ToClient}
 use Rattle.rules.specs.declared.requests.ClientCall.{ClientCall}
-use Rattle.rules.specs.Act.{Out, dropped, toClient, toPeer, keep, write, outOf, outcomeOf, replyAfter, Answers}
+use Rattle.rules.specs.Act.{Out, dropped, toClient, toPeer, keep, write, outcomeOf, replyAfter, Gives, Answers}
 use Rattle.rules.specs.Values.{anyUnknown, malformedPeer, ipv6Peer, any, numberOf, granted, grantedRefresh}
 use Rattle.rules.specs.Requests.{permitPeer, permitAll, firstFree}
 use Rattle.rules.specs.Data.{permitted, sentFrom, send, channelledFrom, channelled}
 
 -- ---- What a function that decides says
 
--- a message was written, and the slot kept
+-- a message was written
+pub gives-message : {fiveTuple : FiveTuple} {message before after : List ℕ} {n : ℕ} → Sent message before after n
+    → Gives (toClient fiveTuple message) before after (ToClient fiveTuple n)
+gives-message {fiveTuple} w = record { outcome-is = ap (ToClient fiveTuple) (w .size); reply-is = w .wrote .is }
+
+-- .. and the slot kept
 pub kept-with : {fiveTuple : FiveTuple} {message before after : List ℕ} {n : ℕ} (was : Slot) → Sent message before after n
-    → Answers (keep (toClient fiveTuple message)) was before after (record { outcome = ToClient fiveTuple n; slot = was })
-kept-with {fiveTuple} was w = record { outcome = ap (ToClient fiveTuple) (w .size); slot = refl; reply = w .wrote .is }
+    → Answers (keep (toClient fiveTuple message)) was before after (record { outcome = ToClient fiveTuple n; writes = false; slot = was })
+kept-with was w = record { gives = gives-message w; writes = refl; slot = refl }
 
--- a message was written, and the slot too
+-- .. and the slot too
 pub written-with : {fiveTuple : FiveTuple} {message before after : List ℕ} {n : ℕ} {made : Slot} {was slot : Slot} → made ≡ slot
-    → Sent message before after n → Answers (write slot (toClient fiveTuple message)) was before after (record { outcome = ToClient fiveTuple n; slot = made })
-written-with {fiveTuple} e w = record { outcome = ap (ToClient fiveTuple) (w .size); slot = e; reply = w .wrote .is }
+    → Sent message before after n
+    → Answers (write slot (toClient fiveTuple message)) was before after (record { outcome = ToClient fiveTuple n; writes = true; slot = made })
+written-with e w = record { gives = gives-message w; writes = refl; slot = e }
 
--- nothing was written, and the slot kept
+-- what goes out is no message to a client, and the slot is kept
 pub kept : {out : Out} {outcome : Outcome} (was : Slot) (reply : List ℕ) → outcome ≡ outcomeOf out → replyAfter reply out ≡ reply
-    → Answers (keep out) was reply reply (record { outcome = outcome; slot = was })
-kept was reply e r = record { outcome = e; slot = refl; reply = sym r }
+    → Answers (keep out) was reply reply (record { outcome = outcome; writes = false; slot = was })
+kept was reply e r = record { gives = record { outcome-is = e; reply-is = sym r }; writes = refl; slot = refl }
 
--- ---- Send and ChannelData write no reply, and keep their slot
-module _ (call : ClientCall) (s : List ℕ) (own : Bool) (slot : Slot) (reply : List ℕ) {outcome : Outcome} where
-  pub send-answers : outcome ≡ outcomeOf (outOf (send call s own slot))
-      → Answers (send call s own slot) slot reply reply (record { outcome = outcome; slot = slot })
+-- ---- Send and ChannelData write no reply
+module _ (call : ClientCall) (s : List ℕ) (own : Bool) (slot : Slot) (reply : List ℕ) where
+  pub send-quiet : replyAfter reply (send call s own slot) ≡ reply
   unfolding send
-  send-answers e = record {
-    outcome = e;
-    slot = refl;
-    reply =
-        sym
-        (go (anyUnknown s) (not own) (malformedPeer (firstPeer s)) (ipv6Peer (firstPeer s)) (not (permitted (call .time) (firstPeer s .peer) slot)) (firstOf 0x0013 (attributes s)));
-  }
+  send-quiet =
+      go (anyUnknown s) (not own) (malformedPeer (firstPeer s)) (ipv6Peer (firstPeer s)) (not (permitted (call .time) (firstPeer s .peer) slot)) (firstOf 0x0013 (attributes s))
     where
       go : (a b c d f : Bool) (place : Found)
           → replyAfter reply (pick a dropped (pick b dropped (pick c dropped (pick d dropped (pick f dropped (sentFrom call s slot place)))))) ≡ reply
@@ -78,10 +78,9 @@ module _ (call : ClientCall) (s : List ℕ) (own : Bool) (slot : Slot) (reply : 
       go false false false false false (Place.Value start len) = refl
       go false false false false false Place.Absent = refl
 
-  pub channelled-answers : outcome ≡ outcomeOf (outOf (channelled call s own slot))
-      → Answers (channelled call s own slot) slot reply reply (record { outcome = outcome; slot = slot })
+  pub channelled-quiet : replyAfter reply (channelled call s own slot) ≡ reply
   unfolding channelled
-  channelled-answers e = record { outcome = e; slot = refl; reply = sym (go (channelDataOf s)) }
+  channelled-quiet = go (channelDataOf s)
     where
       passed : (a b : Bool) (port : ℕ) (peer : Peer) (start len : ℕ) → replyAfter reply (pick a dropped (pick b dropped (toPeer port peer start len))) ≡ reply
       passed true b port peer start len = refl

@@ -6,23 +6,17 @@ use mathlib.Core.List.{List}
 use native.Mathlib.Omega.{arith}
 use lib.Dec.{eqb}
 use lib.ListN.{length, length-take}
-use Rattle.wire.specs.Wire.{num}
 use Rattle.choice.specs.Choice.{pick}
 use Rattle.address.specs.declared.FiveTuple.{FiveTuple}
 use Rattle.address.specs.declared.Peer.{Peer}
 use Rattle.address.specs.declared.TransactionId.{TransactionId}
-use Rattle.stun.specs.declared.kinds.Class.{Class}
-use Rattle.stun.specs.declared.kinds.Class.the-variants.{Stun, ChannelData, Neither}
 use Rattle.stun.specs.declared.kinds.Method.{Method}
-use Rattle.stun.specs.declared.kinds.Method.the-variants.{Allocate, Refresh, CreatePermission, ChannelBind}
-use Rattle.stun.specs.declared.kinds.MessageKind.{MessageKind}
-use Rattle.stun.specs.declared.kinds.MessageKind.the-variants.{Request, Success, Error, SendIndication, DataIndication, Other}
+use Rattle.stun.specs.declared.kinds.Method.the-variants.{CreatePermission, ChannelBind}
 use Rattle.stun.specs.declared.message.Found.{Found}
 use Rattle.stun.specs.declared.message.Found.the-variants.{Value, Absent}
 use Rattle.stun.specs.declared.channel_data.ChannelMessage.{ChannelMessage}
 use Rattle.stun.specs.declared.channel_data.ChannelMessage.the-variants.{Data, Malformed}
-use Rattle.stun.specs.Kinds.{messageKindOf}
-use Rattle.stun.specs.Message.{attributes, firstOf, unknownTypes, sorted, wellFormed, channelDataOf}
+use Rattle.stun.specs.Message.{attributes, firstOf, unknownTypes, channelDataOf}
 use Rattle.stun.specs.Values.{transactionId, firstPeer}
 use Rattle.messages.specs.Messages.{errorResponse, unknownResponse, channelData, dataIndication}
 use Rattle.messages.proofs.Laws.{allocate-small, refresh-small, bare-small, error-small, unknown-small, indication-small, channel-data-small}
@@ -35,7 +29,6 @@ use Rattle.rules.specs.Act.{Out, dropped, toClient, toPeer, Change, keep
 use Rattle.rules.specs.Values.{anyUnknown, isIpv6, ipv4Of, malformedPeer, ipv6Peer}
 use Rattle.rules.specs.Requests.{allocate, refresh, createPermission, channelBind}
 use Rattle.rules.specs.Data.{permitted, sentFrom, send, channelledFrom, channelled, relayed, fromPeer}
-use Rattle.rules.specs.Client.{requested, ofKind, ofClass, owned}
 
 -- a message that goes out fits
 abbrev pub Small : Out → Type 0
@@ -65,15 +58,20 @@ pub allocate-answer-small : (call : ClientCall) (s : List ℕ) (survey : Survey)
 unfolding allocate
 allocate-answer-small call s survey = respond-small _ _ s _ _ (allocate-small (transactionId s) _ _ _ _)
 
-requested-small : (call : ClientCall) (s : List ℕ) (own : Bool) (slot : Slot) (method : Method) → Small (outOf (requested call s own slot method))
-unfolding refresh createPermission channelBind
-requested-small call s own slot Allocate = tt
-requested-small call s own slot Refresh = respond-small _ _ s _ _ (refresh-small (transactionId s) _)
-requested-small call s own slot CreatePermission = respond-small _ _ s _ _ (bare-small (transactionId s) CreatePermission)
-requested-small call s own slot ChannelBind = respond-small _ _ s _ _ (bare-small (transactionId s) ChannelBind)
+pub refresh-answer-small : (call : ClientCall) (s : List ℕ) (own : Bool) (slot : Slot) → Small (outOf (refresh call s own slot))
+unfolding refresh
+refresh-answer-small call s own slot = respond-small _ _ s _ _ (refresh-small (transactionId s) _)
+
+pub permission-answer-small : (call : ClientCall) (s : List ℕ) (own : Bool) (slot : Slot) → Small (outOf (createPermission call s own slot))
+unfolding createPermission
+permission-answer-small call s own slot = respond-small _ _ s _ _ (bare-small (transactionId s) CreatePermission)
+
+pub channel-answer-small : (call : ClientCall) (s : List ℕ) (own : Bool) (slot : Slot) → Small (outOf (channelBind call s own slot))
+unfolding channelBind
+channel-answer-small call s own slot = respond-small _ _ s _ _ (bare-small (transactionId s) ChannelBind)
 
 -- Send and ChannelData send no message to a client
-send-small : (call : ClientCall) (s : List ℕ) (own : Bool) (slot : Slot) → Small (outOf (send call s own slot))
+pub send-small : (call : ClientCall) (s : List ℕ) (own : Bool) (slot : Slot) → Small (send call s own slot)
 unfolding send
 send-small call s own slot =
     go (anyUnknown s) (not own) (malformedPeer (firstPeer s)) (ipv6Peer (firstPeer s)) (not (permitted (call .time) (firstPeer s .peer) slot)) (firstOf 0x0013 (attributes s))
@@ -87,7 +85,7 @@ send-small call s own slot =
     go false false false false false (Value start len) = tt
     go false false false false false Absent = tt
 
-channelled-small : (call : ClientCall) (s : List ℕ) (own : Bool) (slot : Slot) → Small (outOf (channelled call s own slot))
+pub channelled-small : (call : ClientCall) (s : List ℕ) (own : Bool) (slot : Slot) → Small (channelled call s own slot)
 unfolding channelled
 channelled-small call s own slot = go (channelDataOf s)
   where
@@ -100,31 +98,9 @@ channelled-small call s own slot = go (channelDataOf s)
     go (Data number start len) = passes (not own) (not (has (find (numbered (call .time) number) (slot .channels)))) _ _ start len
     go Malformed = tt
 
--- a client's datagram other than Allocate
-pub owned-small : (call : ClientCall) (s : List ℕ) (own : Bool) (slot : Slot) → Small (outOf (owned call s own slot))
-unfolding owned
-owned-small call s own slot = go (sorted s)
-  where
-    kind : (k : MessageKind) → Small (outOf (ofKind call s own slot k))
-    kind (Request method) = requested-small call s own slot method
-    kind (Success method) = tt
-    kind (Error method) = tt
-    kind SendIndication = send-small call s own slot
-    kind DataIndication = tt
-    kind Other = tt
-
-    formed : (b : Bool) → Small (outOf (pick b (ofKind call s own slot (messageKindOf (num s 0 2))) (keep dropped)))
-    formed true = kind (messageKindOf (num s 0 2))
-    formed false = tt
-
-    go : (class : Class) → Small (outOf (ofClass call s own slot class))
-    go Stun = formed (wellFormed s)
-    go ChannelData = channelled-small call s own slot
-    go Neither = tt
-
 -- a peer's datagram
 pub from-peer-small : (time : ℕ) (source : Peer) (id : TransactionId) (s : List ℕ) (own : Bool) (slot : Slot) → length s ≤ 1500
-    → Small (outOf (fromPeer time source id s own slot))
+    → Small (fromPeer time source id s own slot)
 unfolding fromPeer relayed
 from-peer-small time source id s own slot h =
     let found = find (leadsTo time source) (slot .channels) in

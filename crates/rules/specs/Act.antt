@@ -32,6 +32,10 @@ abbrev pub outOf : Change → Out
 outOf (keep out) = out
 outOf (write slot out) = out
 
+abbrev pub writes : Change → Bool
+writes (keep out) = false
+writes (write slot out) = true
+
 abbrev pub slotAfter : Slot → Change → Slot
 slotAfter was (keep out) = was
 slotAfter was (write slot out) = slot
@@ -48,11 +52,16 @@ replyAfter reply dropped = reply
 replyAfter reply (toClient fiveTuple message) = message ++ drop (length message) reply
 replyAfter reply (toPeer port peer start len) = reply
 
--- what a function that decides about a slot says: the outcome, the slot, and the reply as it leaves it
+-- what a function that gives something out says: the outcome, and the reply as it leaves it
+pub record Gives (out : Out) (before after : List ℕ) (outcome : Outcome) : Type 0 where
+  pub outcome-is : outcome ≡ outcomeOf out
+  pub reply-is : after ≡ replyAfter before out
+
+-- and one that decides about a slot: whether it is written, and with what
 pub record Answers (change : Change) (was : Slot) (before after : List ℕ) (answer : Answer) : Type 0 where
-  pub outcome : answer .outcome ≡ outcomeOf (outOf change)
+  pub gives : Gives (outOf change) before after (answer .outcome)
+  pub writes : answer .writes ≡ writes change
   pub slot : answer .slot ≡ slotAfter was change
-  pub reply : after ≡ replyAfter before (outOf change)
 
 -- 'Checks in order; the first that applies gives the error response.' 0 is none
 unfoldable pub check : Bool → ℕ → ℕ → ℕ

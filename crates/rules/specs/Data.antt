@@ -1,4 +1,4 @@
--- Document 01's 'Data': Send, ChannelData and a peer's datagram. 'Data never extends an expiry': each keeps its slot.
+-- Document 01's 'Data': Send, ChannelData and a peer's datagram. 'Data never extends an expiry': none of them changes a slot.
 use Prim.Native.Nat.{ℕ}
 use mathlib.Core.Bool.{Bool, true, false, not}
 use mathlib.Core.List.{List}
@@ -17,7 +17,7 @@ use Rattle.table.specs.declared.Slot.{Slot}
 use Rattle.table.specs.Search.{has, find, atOr}
 use Rattle.table.specs.Table.{freshChannel, permits, numbered, leadsTo}
 use Rattle.rules.specs.declared.requests.ClientCall.{ClientCall}
-use Rattle.rules.specs.Act.{Change, Out, keep, dropped, toClient, toPeer}
+use Rattle.rules.specs.Act.{Out, dropped, toClient, toPeer}
 use Rattle.rules.specs.Values.{anyUnknown, isIpv6, ipv4Of, malformedPeer, ipv6Peer}
 
 -- there is a live permission for the peer's IP address
@@ -30,15 +30,14 @@ sentFrom call s slot Absent = dropped
 
 -- 'Send: unknown attribute, no live allocation, peer missing, malformed or IPv6, DATA missing, or no live permission for the peer's IP
 -- address: dropped. User is not looked at.'
-unfoldable pub send : ClientCall → List ℕ → Bool → Slot → Change
+unfoldable pub send : ClientCall → List ℕ → Bool → Slot → Out
 send call s own slot =
-    keep
-    (pick (anyUnknown s) dropped
+    pick (anyUnknown s) dropped
     (pick (not own) dropped
     (pick (malformedPeer (firstPeer s)) dropped
     (pick (ipv6Peer (firstPeer s)) dropped
     (pick (not (permitted (call .time) (firstPeer s .peer) slot)) dropped
-    (sentFrom call s slot (firstOf attribute.«data» (attributes s))))))))
+    (sentFrom call s slot (firstOf attribute.«data» (attributes s)))))))
 
 abbrev pub channelledFrom : ClientCall → Slot → Bool → ChannelMessage → Out
 channelledFrom call slot own (Data number start len) =
@@ -50,8 +49,8 @@ channelledFrom call slot own Malformed = dropped
 
 -- 'ChannelData: number, length, data; under 4 bytes, length over what follows, no live allocation, or channel not live: dropped;
 -- permissions are not consulted; spare bytes are ignored.'
-unfoldable pub channelled : ClientCall → List ℕ → Bool → Slot → Change
-channelled call s own slot = keep (channelledFrom call slot own (channelDataOf s))
+unfoldable pub channelled : ClientCall → List ℕ → Bool → Slot → Out
+channelled call s own slot = channelledFrom call slot own (channelDataOf s)
 
 -- 'If the peer has a live channel, ChannelData without padding; else a Data indication 0x0017 with XOR-PEER-ADDRESS then DATA'
 unfoldable pub relayed : ℕ → Peer → TransactionId → List ℕ → Slot → List ℕ
@@ -62,10 +61,9 @@ relayed time source id s slot =
     (dataIndication id (ipv4Of (source .address)) (source .port) s)
 
 -- 'A peer's datagram: no live slot with the port, IPv6, or no live permission: dropped.'
-unfoldable pub fromPeer : ℕ → Peer → TransactionId → List ℕ → Bool → Slot → Change
+unfoldable pub fromPeer : ℕ → Peer → TransactionId → List ℕ → Bool → Slot → Out
 fromPeer time source id s own slot =
-    keep
-    (pick (not own) dropped
+    pick (not own) dropped
     (pick (isIpv6 (source .address)) dropped
     (pick (not (permitted time source slot)) dropped
-    (toClient (slot .allocation .«five_tuple») (relayed time source id s slot)))))
+    (toClient (slot .allocation .«five_tuple») (relayed time source id s slot))))

@@ -29,9 +29,10 @@ pub enum Outcome {
     },
 }
 
-// What a rule decides: the outcome, and the slot that it was about as it leaves it.
+// What a rule decides: the outcome, whether it writes a slot, and the slot that it was about as it leaves it.
 pub struct Answer {
     pub outcome: Outcome,
+    pub writes: bool,
     pub slot: Slot,
 }
 
@@ -62,9 +63,17 @@ pub fn respond_error(
         let count = unknown.count;
         let len = put_unknown_response(reply, method, id, types, count);
         let outcome = Outcome::ToClient { five_tuple, len };
-        return Answer { outcome, slot };
+        return Answer {
+            outcome,
+            writes: false,
+            slot,
+        };
     }
     let len = put_error_response(reply, method, id, code);
     let outcome = Outcome::ToClient { five_tuple, len };
-    Answer { outcome, slot }
+    Answer {
+        outcome,
+        writes: false,
+        slot,
+    }
 }

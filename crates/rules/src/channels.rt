@@ -100,5 +100,9 @@ pub fn channel_bind(s: &[u8], reply: &mut [u8], call: ClientCall, own: bool, was
     let slot = both.slot;
     let len = put_bare_success(reply, Method::ChannelBind, transaction_id(s));
     let outcome = Outcome::ToClient { five_tuple, len };
-    Answer { outcome, slot }
+    Answer {
+        outcome,
+        writes: true,
+        slot,
+    }
 }

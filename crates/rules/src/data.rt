@@ -1,5 +1,4 @@
-// Send, ChannelData and a peer's datagram: data passes or is dropped, and its slot is kept.
-use crate::answer::Answer;
+// Send, ChannelData and a peer's datagram: data passes or is dropped, and no slot is changed.
 use crate::answer::Outcome;
 use crate::requests::ClientCall;
 use crate::values::any_unknown;
@@ -26,7 +25,7 @@ ghost use mathlib.Core.Path.{_≡_};
 ghost use Prim.Native.Nat.{_≤_};
 ghost use lib.ListN.{length};
 ghost use Rattle.messages.specs.Messages.{Sent};
-ghost use Rattle.rules.specs.Act.{outcomeOf, outOf, Answers};
+ghost use Rattle.rules.specs.Act.{outcomeOf, Gives};
 ghost use Rattle.rules.specs.Data.{permitted, send, channelled, relayed, fromPeer};
 
 // Whether there is a live permission for the peer's IP address.
@@ -41,7 +40,7 @@ fn permitted(time: u64, peer: Peer, slot: Slot) -> bool
 // A Send indication.
 pub fn send(s: &[u8], call: ClientCall, own: bool, slot: Slot) -> Outcome
     requires { ⌜ 20 ≤ length (now s) ⌝ }
-    ensures { λ r. ⌜ r ≡ outcomeOf (outOf (send call (now (s .entry)) own slot)) ⌝ }
+    ensures { λ r. ⌜ r ≡ outcomeOf (send call (now (s .entry)) own slot) ⌝ }
 {
     if any_unknown(s) {
         return Outcome::Dropped;
@@ -74,7 +73,7 @@ pub fn send(s: &[u8], call: ClientCall, own: bool, slot: Slot) -> Outcome
 
 // A ChannelData message.
 pub fn channelled(s: &[u8], call: ClientCall, own: bool, slot: Slot) -> Outcome
-    ensures { λ r. ⌜ r ≡ outcomeOf (outOf (channelled call (now (s .entry)) own slot)) ⌝ }
+    ensures { λ r. ⌜ r ≡ outcomeOf (channelled call (now (s .entry)) own slot) ⌝ }
 {
     match read_channel_data(s) {
         ChannelMessage::Data { number, start, len } => {
@@ -131,32 +130,22 @@ pub fn from_peer(
     id: TransactionId,
     own: bool,
     slot: Slot,
-) -> Answer
+) -> Outcome
     requires { ⌜ (length (now s) ≤ 1500) × (1536 ≤ length (now reply)) ⌝ }
-    ensures { λ r. ⌜ Answers (fromPeer time source id (now (s .entry)) own slot) slot (now (reply .entry)) (now (reply .exit)) r ⌝ }
+    ensures { λ r. ⌜ Gives (fromPeer time source id (now (s .entry)) own slot) (now (reply .entry)) (now (reply .exit)) r ⌝ }
 {
     if !own {
-        return Answer {
-            outcome: Outcome::Dropped,
-            slot,
-        };
+        return Outcome::Dropped;
     }
     let address = source.address;
     if is_ipv6(address) {
-        return Answer {
-            outcome: Outcome::Dropped,
-            slot,
-        };
+        return Outcome::Dropped;
     }
     if !permitted(time, source, slot) {
-        return Answer {
-            outcome: Outcome::Dropped,
-            slot,
-        };
+        return Outcome::Dropped;
     }
     let len = relay_data(s, reply, time, source, id, slot);
     let allocation = slot.allocation;
     let five_tuple = allocation.five_tuple;
-    let outcome = Outcome::ToClient { five_tuple, len };
-    Answer { outcome, slot }
+    Outcome::ToClient { five_tuple, len }
 }

@@ -122,5 +122,9 @@ pub fn create_permission(
     let slot = placed.slot;
     let len = put_bare_success(reply, Method::CreatePermission, transaction_id(s));
     let outcome = Outcome::ToClient { five_tuple, len };
-    Answer { outcome, slot }
+    Answer {
+        outcome,
+        writes: true,
+        slot,
+    }
 }

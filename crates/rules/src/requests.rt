@@ -125,7 +125,11 @@ pub fn allocate(s: &[u8], reply: &mut [u8], call: ClientCall, survey: Survey, wa
     let client = five_tuple.client;
     let len = put_allocate_success(reply, id, call.relay, survey.port, seconds, client);
     let outcome = Outcome::ToClient { five_tuple, len };
-    Answer { outcome, slot }
+    Answer {
+        outcome,
+        writes: true,
+        slot,
+    }
 }
 
 // ---- Refresh
@@ -178,5 +182,9 @@ pub fn refresh(s: &[u8], reply: &mut [u8], call: ClientCall, own: bool, was: Slo
     let slot = refreshed(call.time, seconds, was);
     let len = put_refresh_success(reply, transaction_id(s), seconds);
     let outcome = Outcome::ToClient { five_tuple, len };
-    Answer { outcome, slot }
+    Answer {
+        outcome,
+        writes: true,
+        slot,
+    }
 }

@@ -18,7 +18,7 @@ use Rattle.text.specs.declared.Parsed.{Parsed}
 use Rattle.text.specs.declared.Parsed.the-variants.{Number, Nothing}
 use Rattle.text.specs.Text.{decimalOf, hexWordOf, isHex, hexBytesOf, hexInto, ReadHex}
 use Rattle.text.proofs.Laws.{hex-word-only, hex-into}
-use Rattle.relay.specs.declared.calls.Call.{Call}
+use Rattle.relay.specs.declared.incoming.Call.{Call}
 use Rattle.script.specs.declared.fields.NumberField.{NumberField}
 use Rattle.script.specs.declared.fields.AddressField.{AddressField}
 use Rattle.script.specs.declared.lines.ReadLine.{ReadLine}

@@ -12,14 +12,15 @@ use Rattle.wire.specs.Wire.{partOf}
 use Rattle.rules.specs.declared.answer.Outcome.{Outcome}
 use Rattle.rules.specs.declared.answer.Outcome.the-variants.{Refused, Dropped, ToClient, ToPeer}
 use Rattle.messages.specs.Messages.{Sent}
-use Rattle.table.specs.declared.Slot.{Slot}
-use Rattle.relay.specs.declared.calls.Call.{Call}
-use Rattle.relay.specs.Step.{Act, timeOf, act, Stepped}
+use Rattle.relay.specs.declared.incoming.Call.{Call}
+use Rattle.relay.specs.State.{State}
+use Rattle.relay.specs.Outcomes.{stateAfter}
+use Rattle.relay.specs.Step.{act, Stepped}
 use Rattle.relay.specs.Sending.{sent}
 use Rattle.script.specs.declared.lines.ReadLine.{ReadLine}
 use Rattle.script.specs.Answers.{answerOf, badAnswer}
 use Rattle.script.specs.Lines.{Line, bad, asks, lineOf, isBad, callIn, lengthIn, Reads}
-use Rattle.script.specs.Run.{isToPeer, shown, Called, answerTo, slotsTo, clockTo, lineIn, Runs}
+use Rattle.script.specs.Run.{isToPeer, shown, Called, answerTo, stateTo, lineIn, Runs}
 
 -- ---- What an outcome sends is a part of one of the two buffers
 
@@ -75,33 +76,32 @@ reads-of {buffer = buffer} {r = r} e k = subst (λ x. Reads (lineOf x) buffer r)
 
 -- ---- A call is answered
 
-pub called : {done : Act} {call : Call} {datagram output output′ reply reply′ : List ℕ} {slots slots′ : List Slot} {clock clock′ n : ℕ} {outcome : Outcome}
-    → Stepped done (timeOf call) outcome slots slots′ clock clock′ reply reply′ → Sent (answerOf outcome (sent outcome datagram reply′)) output output′ n
-    → Called done call datagram slots slots′ clock clock′ reply reply′ output output′ n
-called {done} {datagram = datagram} {output} {output′} {reply} {reply′} {n = n} {outcome} s w =
-    let e : answerOf outcome (sent outcome datagram reply′) ≡ shown done datagram reply = rw (s .acted .outcome-is, s .acted .reply-is) in
-    record { answered = subst (λ k. Sent k output output′ n) e w; slots-are = s .acted .slots-are; clock-is = s .clock-is; reply-is = s .acted .reply-is }
+pub called : {before after : State} {call : Call} {datagram output output′ reply reply′ : List ℕ} {n : ℕ} {outcome : Outcome}
+    → Stepped before call datagram outcome after reply reply′ → Sent (answerOf outcome (sent outcome datagram reply′)) output output′ n
+    → Called before call datagram after reply reply′ output output′ n
+called {before} {call = call} {datagram} {output} {output′} {reply} {reply′} {n} {outcome} s w =
+    let e : answerOf outcome (sent outcome datagram reply′) ≡ shown (act before call datagram (length reply)) datagram reply = rw (s .outcome-is, s .reply-is) in
+    record { answered = subst (λ k. Sent k output output′ n) e w; state-is = s .state-is; reply-is = s .reply-is }
 
 -- the same call and datagram by other names
-called-as : {call call′ : Call} {datagram datagram′ output output′ reply reply′ : List ℕ} {slots slots′ : List Slot} {clock clock′ room room′ n : ℕ} → call ≡ call′ → datagram ≡ datagram′ → room ≡ room′
-    → Called (act clock slots call datagram room) call datagram slots slots′ clock clock′ reply reply′ output output′ n → Called (act clock slots call′ datagram′ room′) call′ datagram′ slots slots′ clock clock′ reply reply′ output output′ n
-called-as {call} {call′} {datagram} {datagram′} {output} {output′} {reply} {reply′} {slots} {slots′} {clock} {clock′} {room} {room′} {n} c d r k =
-    subst (λ x. Called (act clock slots call′ x room′) call′ x slots slots′ clock clock′ reply reply′ output output′ n) d
-    (subst (λ x. Called (act clock slots x datagram room′) x datagram slots slots′ clock clock′ reply reply′ output output′ n) c
-    (subst (λ x. Called (act clock slots call datagram x) call datagram slots slots′ clock clock′ reply reply′ output output′ n) r k))
+called-as : {before after : State} {call call′ : Call} {datagram datagram′ output output′ reply reply′ : List ℕ} {n : ℕ} → call ≡ call′ → datagram ≡ datagram′
+    → Called before call datagram after reply reply′ output output′ n → Called before call′ datagram′ after reply reply′ output output′ n
+called-as {before} {after} {call} {call′} {datagram} {datagram′} {output} {output′} {reply} {reply′} {n} c d k =
+    subst (λ x. Called before call′ x after reply reply′ output output′ n) d
+    (subst (λ x. Called before x datagram after reply reply′ output output′ n) c k)
 
 take-le : (n : ℕ) (l : List ℕ) → length (take n l) ≡ n → n ≤ length l
 take-le n l e = omega (arith, e, take-short n l {n = length l} (omega arith))
 
 -- ---- A line is answered
 
-pub runs-small : (line : Line) {slots : List Slot} {clock : ℕ} {output : List ℕ} → ltb (length output) 4096 ≡ true → Runs line slots slots clock clock output output 0
-runs-small line small = record { size-is = rw small; output-is = rw small; slots-are = rw small; clock-is = rw small }
+pub runs-small : (line : Line) {before : State} {output : List ℕ} → ltb (length output) 4096 ≡ true → Runs line before before output output 0
+runs-small line small = record { size-is = rw small; output-is = rw small; state-is = rw small }
 
 -- what a line in an output that is long enough leaves
-runs-long : {line : Line} {slots slots′ : List Slot} {clock clock′ n : ℕ} {output output′ : List ℕ} → ltb (length output) 4096 ≡ false → Sent (answerTo clock slots line) output output′ n
-    → slots′ ≡ slotsTo clock slots line → clock′ ≡ clockTo clock slots line → Runs line slots slots′ clock clock′ output output′ n
-runs-long long w s c = record { size-is = rw (long, w .size); output-is = rw (long, w .wrote .is); slots-are = rw (long, s); clock-is = rw (long, c) }
+runs-long : {line : Line} {before after : State} {n : ℕ} {output output′ : List ℕ} → ltb (length output) 4096 ≡ false → Sent (answerTo before line) output output′ n
+    → after ≡ stateTo before line → Runs line before after output output′ n
+runs-long long w s = record { size-is = rw (long, w .size); output-is = rw (long, w .wrote .is); state-is = rw (long, s) }
 
 -- how long a line's datagram is, as it was read
 pub length-fits : (line : Line) {buffer : List ℕ} {r : ReadLine} {len : ℕ} → Reads line buffer r → len ≡ lengthIn r → len ≤ length buffer
@@ -110,17 +110,20 @@ length-fits (asks call datagram) {buffer} k e =
     let t = take-le (length datagram) buffer (ap length (k .front)) in
     omega (arith, t, e, ap lengthIn (k .is))
 
-pub runs-bad : (line : Line) {buffer output output′ : List ℕ} {r : ReadLine} {slots : List Slot} {clock n : ℕ} {is : Bool} → ltb (length output) 4096 ≡ false → Reads line buffer r → is ≡ isBad r → is ≡ true
-    → Sent badAnswer output output′ n → Runs line slots slots clock clock output output′ n
-runs-bad bad long k i t w = runs-long long w refl refl
+pub runs-bad : (line : Line) {buffer output output′ : List ℕ} {r : ReadLine} {before : State} {n : ℕ} {is : Bool} → ltb (length output) 4096 ≡ false → Reads line buffer r → is ≡ isBad r → is ≡ true
+    → Sent badAnswer output output′ n → Runs line before before output output′ n
+runs-bad bad long k i t w = runs-long long w refl
 runs-bad (asks call datagram) long k i t w = absurd (false≢true (sym (i ∙ ap isBad (k .is)) ∙ t))
 
-pub runs-asks : (line : Line) {buffer output output′ reply′ : List ℕ} {r : ReadLine} {slots slots′ : List Slot} {clock clock′ n len : ℕ} {call : Call} {is : Bool} → ltb (length output) 4096 ≡ false
+pub runs-asks : (line : Line) {buffer output output′ reply′ : List ℕ} {r : ReadLine} {before after : State} {n len : ℕ} {call : Call} {is : Bool} → ltb (length output) 4096 ≡ false
     → Reads line buffer r → is ≡ isBad r → is ≡ false → call ≡ callIn r → len ≡ lengthIn r
-    → Called (act clock slots call (take len buffer) (length {A = ℕ} (replicate 1536 0))) call (take len buffer) slots slots′ clock clock′ (replicate 1536 0) reply′ output output′ n → Runs line slots slots′ clock clock′ output output′ n
+    → Called before call (take len buffer) after (replicate 1536 0) reply′ output output′ n → Runs line before after output output′ n
 runs-asks bad long k i f c l d = absurd (false≢true (sym f ∙ i ∙ ap isBad (k .is)))
-runs-asks (asks call₀ datagram) {buffer} {output} {output′} {reply′} {slots = slots} {slots′} {clock} {clock′} {n} long k i f c l d =
+runs-asks (asks call₀ datagram) {buffer} {output} {output′} {before = before} {after} {n} long k i f c l d =
     let c₀ = c ∙ ap callIn (k .is) in
     let d₀ = ap (λ m. take m buffer) (l ∙ ap lengthIn (k .is)) ∙ k .front in
-    let e = called-as c₀ d₀ (length-replicate {A = ℕ} 1536 0) d in
-    runs-long long (e .answered) (e .slots-are) (e .clock-is)
+    let e = called-as c₀ d₀ d in
+    let room = length-replicate {A = ℕ} 1536 0 in
+    let w = subst (λ m. Sent (shown (act before call₀ datagram m) datagram (replicate 1536 0)) output output′ n) room (e .answered) in
+    let s = subst (λ m. after ≡ stateAfter before (act before call₀ datagram m)) room (e .state-is) in
+    runs-long long w s

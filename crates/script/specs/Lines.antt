@@ -11,8 +11,8 @@ use Rattle.address.specs.declared.Address.{Address}
 use Rattle.address.specs.declared.Address.the-variants.{V4}
 use Rattle.address.specs.declared.Peer.{Peer}
 use Rattle.text.specs.Text.{isHex, hexBytesOf}
-use Rattle.relay.specs.declared.calls.Call.{Call}
-use Rattle.relay.specs.Step.{clientDatagram, peerDatagram}
+use Rattle.relay.specs.declared.incoming.Call.{Call}
+use Rattle.relay.specs.Refusals.{clientDatagram, peerDatagram}
 use Rattle.script.specs.declared.lines.ReadLine.{ReadLine}
 use Rattle.script.specs.declared.lines.ReadLine.the-variants.{Bad, Asks}
 use Rattle.script.specs.Fields.{isMore, rest, isNumber, valueOf, numberOf, isAddress, addressOf}

@@ -7,16 +7,17 @@ use lines::call_in;
 use lines::is_bad;
 use lines::length_in;
 use lines::read_line;
-use relay::calls::Call;
+use relay::incoming::Call;
 use relay::relay_datagram;
 use relay::sending::what_to_send;
+use relay::state::Bookkeeping;
 use rules::answer::Outcome;
 use table::Slot;
 ghost use mathlib.Core.Path.{_≡_};
 ghost use Prim.Native.Nat.{_≤_};
 ghost use lib.ListN.{length, take};
 ghost use Rattle.relay.specs.Sending.{sent};
-ghost use Rattle.relay.specs.Step.{act};
+ghost use Rattle.relay.specs.State.{state};
 ghost use Rattle.messages.specs.Messages.{Sent};
 ghost use Rattle.script.specs.Answers.{answerOf};
 ghost use Rattle.script.specs.Lines.{lineOf, Reads};
@@ -83,7 +84,7 @@ fn put_outcome(output: &mut [u8], outcome: Outcome, datagram: &[u8], reply: &[u8
 // A call with the datagram at the front of a buffer.
 fn answer_call(
     slots: &mut [Slot],
-    clock: &mut u64,
+    bookkeeping: &mut Bookkeeping,
     call: Call,
     buffer: &[u8],
     len: usize,
@@ -91,23 +92,23 @@ fn answer_call(
     output: &mut [u8],
 ) -> usize
     requires { ⌜ ((len ≤ length (now buffer)) × (length (now buffer) ≤ 1600)) × ((length (now reply) ≤ 1600) × (4096 ≤ length (now output))) ⌝ }
-    ensures { λ r. ⌜ Called (act (now (clock .entry)) (now (slots .entry)) call (take len (now (buffer .entry))) (length (now (reply .entry)))) call (take len (now (buffer .entry))) (now (slots .entry)) (now (slots .exit)) (now (clock .entry)) (now (clock .exit)) (now (reply .entry)) (now (reply .exit)) (now (output .entry)) (now (output .exit)) r ⌝ }
+    ensures { λ r. ⌜ Called (state (now (slots .entry)) (now (bookkeeping .entry))) call (take len (now (buffer .entry))) (state (now (slots .exit)) (now (bookkeeping .exit))) (now (reply .entry)) (now (reply .exit)) (now (output .entry)) (now (output .exit)) r ⌝ }
 {
     let datagram = &buffer[..len];
-    let outcome = relay_datagram(slots, clock, call, datagram, reply);
+    let outcome = relay_datagram(slots, bookkeeping, call, datagram, reply);
     put_outcome(output, outcome, datagram, reply)
 }
 
 // The line from `start` to `end` of the input; how long the answer is.
 pub fn run_line(
     slots: &mut [Slot],
-    clock: &mut u64,
+    bookkeeping: &mut Bookkeeping,
     input: &[u8],
     start: usize,
     end: usize,
     output: &mut [u8],
 ) -> usize
-    ensures { λ r. ⌜ Runs (lineOf (lineIn start end (now (input .entry)))) (now (slots .entry)) (now (slots .exit)) (now (clock .entry)) (now (clock .exit)) (now (output .entry)) (now (output .exit)) r ⌝ }
+    ensures { λ r. ⌜ Runs (lineOf (lineIn start end (now (input .entry)))) (state (now (slots .entry)) (now (bookkeeping .entry))) (state (now (slots .exit)) (now (bookkeeping .exit))) (now (output .entry)) (now (output .exit)) r ⌝ }
 {
     if output.len() < 4096 {
         return 0;
@@ -120,7 +121,7 @@ pub fn run_line(
     let mut reply = [0u8; 1536];
     answer_call(
         slots,
-        clock,
+        bookkeeping,
         call_in(read),
         &buffer,
         length_in(read),

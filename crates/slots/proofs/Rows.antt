@@ -9,12 +9,12 @@ use denote.Laws.{Copy}
 use denote.Slice.{Room}
 use denote.Struct.Laws as SL
 use Rattle.walk.proofs.Walk.{Row, Typed, struct-row, enum-row}
-use Rattle.address.proofs.FiveTuple as FiveTuple-t
-use Rattle.address.proofs.FiveTuple.Laws as FiveTuple-l
 use Rattle.slots.proofs.surveys.Survey as Survey-t
 use Rattle.slots.proofs.surveys.Survey.Laws as Survey-l
 use Rattle.slots.proofs.keys.Key as Key-t
 use Rattle.slots.proofs.keys.Key.Laws as Key-l
+use Rattle.slots.proofs.keys.Wanted as Wanted-t
+use Rattle.slots.proofs.keys.Wanted.Laws as Wanted-l
 use Rattle.table.proofs.Found as Found-t
 use Rattle.table.proofs.Found.Laws as Found-l
 use Rattle.table.proofs.Slot as Slot-t
@@ -60,14 +60,14 @@ found-row = enum-row Found-t.the-type Found-l.the-laws Found-l.the-plain tt
 pub found-typed : {M : Type 1} (𝓤 : URA M) (H : Heap 𝓤) (A : Atoms 𝓤) → Typed 𝓤 H A found-row Found-l.mir
 found-typed 𝓤 H A W x is = found-row .lawful 𝓤 H A W .typed x _ is .0
 
-abbrev pub fivetuple-row : Row FiveTuple-t.the-row
-fivetuple-row = struct-row FiveTuple-t.the-type FiveTuple-l.the-laws FiveTuple-l.the-plain
-
-pub fivetuple-typed : {M : Type 1} (𝓤 : URA M) (H : Heap 𝓤) (A : Atoms 𝓤) → Typed 𝓤 H A fivetuple-row FiveTuple-l.mir
-fivetuple-typed 𝓤 H A W x is = fivetuple-row .lawful 𝓤 H A W .typed x _ is .0
-
 abbrev pub survey-row : Row Survey-t.the-row
 survey-row = struct-row Survey-t.the-type Survey-l.the-laws Survey-l.the-plain
 
 pub survey-typed : {M : Type 1} (𝓤 : URA M) (H : Heap 𝓤) (A : Atoms 𝓤) → Typed 𝓤 H A survey-row Survey-l.mir
 survey-typed 𝓤 H A W x is = survey-row .lawful 𝓤 H A W .typed x _ is .0
+
+abbrev pub wanted-row : Row Wanted-t.the-row
+wanted-row = struct-row Wanted-t.the-type Wanted-l.the-laws Wanted-l.the-plain
+
+pub wanted-typed : {M : Type 1} (𝓤 : URA M) (H : Heap 𝓤) (A : Atoms 𝓤) → Typed 𝓤 H A wanted-row Wanted-l.mir
+wanted-typed 𝓤 H A W x is = wanted-row .lawful 𝓤 H A W .typed x _ is .0

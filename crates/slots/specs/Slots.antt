@@ -1,19 +1,20 @@
 -- What the functions over the lent slots answer.
 use Prim.Native.Nat.{ℕ, zero, suc, _+_, _<_}
 use mathlib.Core.Path.{_≡_}
-use mathlib.Core.Bool.{Bool, false, not}
+use mathlib.Core.Bool.{Bool, true, false, not}
 use mathlib.Core.List.{List, [], _∷_, _++_}
 use lib.ListN.{length, getD}
 use Rattle.choice.specs.Choice.{pick}
-use Rattle.address.specs.declared.FiveTuple.{FiveTuple}
 use Rattle.table.specs.declared.Allocation.{Allocation}
 use Rattle.table.specs.declared.Found.{Found}
+use Rattle.table.specs.declared.Found.the-variants.{At, Nothing}
 use Rattle.table.specs.declared.Slot.{Slot}
 use Rattle.table.specs.HeldPorts.{heldIn}
 use Rattle.table.specs.Search.{find, has}
 use Rattle.table.specs.Table.{freshSlot, liveAllocation, holds, holdsUser, holdsPort}
 use Rattle.slots.specs.declared.keys.Key.{Key}
 use Rattle.slots.specs.declared.keys.Key.the-variants.{Client, Port}
+use Rattle.slots.specs.declared.keys.Wanted.{Wanted}
 use Rattle.slots.specs.declared.surveys.Survey.{Survey}
 
 -- slot k of the list, and past its end a fresh one
@@ -42,23 +43,38 @@ count passes (x ∷ l) = pick (passes x) (suc (count passes l)) (count passes l)
 abbrev pub lapsed : ℕ → Allocation → Bool
 lapsed time allocation = not (liveAllocation time allocation)
 
--- what Allocate asks of the slots
-pub record Surveyed (l : List Slot) (time : ℕ) (fiveTuple : FiveTuple) (user : ℕ) (survey : Survey) : Type 0 where
+-- what a look over all the slots learns
+pub record Surveyed (l : List Slot) (wanted : Wanted) (survey : Survey) : Type 0 where
   -- 'live allocation for the 5-tuple'
-  pub own : survey .own ≡ has (find (inSlot (holds time fiveTuple)) l)
+  pub own : survey .own ≡ searched (wanted .time) (wanted .key) l
   -- how many 'live allocations' the 'user holds'
-  pub held : survey .held ≡ count (inSlot (holdsUser time user)) l
+  pub held : survey .held ≡ count (inSlot (holdsUser (wanted .time) (wanted .user))) l
   -- 'the lowest such slot'
-  pub free : survey .free ≡ find (inSlot (lapsed time)) l
+  pub free : survey .free ≡ find (inSlot (lapsed (wanted .time))) l
   -- of each 'port 49152 + k', whether a 'live slot holds' it
-  pub ports : (k : ℕ) → k < 128 → getD (heldIn (survey .ports)) k false ≡ has (find (inSlot (holdsPort time (49152 + k))) l)
+  pub ports : (k : ℕ) → k < 128 → getD (heldIn (survey .ports)) k false ≡ has (find (inSlot (holdsPort (wanted .time) (49152 + k))) l)
+
+-- and one that goes no further than the slot of the key, where no room is wanted
+pub record Looked (l : List Slot) (wanted : Wanted) (survey : Survey) : Type 0 where
+  pub own : survey .own ≡ searched (wanted .time) (wanted .key) l
+  pub room : wanted .room ≡ true → Surveyed l wanted survey
+
+-- the place that was found
+abbrev pub placeOf : Found → ℕ
+placeOf (At k) = k
+placeOf Nothing = 0
+
+-- it lies in a table of that length
+abbrev pub Within : Found → ℕ → Type 0
+Within (At k) n = k < n
+Within Nothing n = Unit
 
 -- it is of no slots, for whomever
 abbrev pub SurveyedNone : Survey → Type 0
-SurveyedNone survey = (time : ℕ) (fiveTuple : FiveTuple) (user : ℕ) → Surveyed [] time fiveTuple user survey
+SurveyedNone survey = (wanted : Wanted) → Surveyed [] wanted survey
 
 -- where `survey` is of the slots before slot i, `more` is of them and of slot i, which has the allocation
-abbrev pub SurveyedWith : Survey → ℕ → ℕ → FiveTuple → ℕ → Allocation → Survey → Type 0
-SurveyedWith survey i time fiveTuple user allocation more =
+abbrev pub SurveyedWith : Survey → ℕ → Wanted → Allocation → Survey → Type 0
+SurveyedWith survey i wanted allocation more =
     (l : List Slot) (slot : Slot) → length l ≡ i → slot .allocation ≡ allocation
-    → Surveyed l time fiveTuple user survey → Surveyed (l ++ slot ∷ []) time fiveTuple user more
+    → Surveyed l wanted survey → Surveyed (l ++ slot ∷ []) wanted more

@@ -1,18 +1,27 @@
 // The table's slots, lent as a slice. Only the functions of this file touch that memory, one slot at a time; every decision is by
 // value, in the modules.
-use address::FiveTuple;
 use keys::Key;
+use keys::Wanted;
 use keys::matches;
+use keys::wanted_key;
+use keys::wanted_time;
+use keys::wants_room;
 use surveys::Survey;
 use surveys::first_survey;
+use surveys::has_own;
+use surveys::only_own;
+use surveys::own_place;
 use surveys::surveyed_with;
 use table::Allocation;
 use table::Found;
 use table::Slot;
+use table::fresh_slot;
 ghost use mathlib.Core.Path.{_≡_};
 ghost use Prim.Native.Nat.{_<_};
 ghost use lib.ListN.{length, set};
-ghost use Rattle.slots.specs.Slots.{slotAt, searched, Surveyed};
+ghost use Rattle.table.specs.Search.{atOr};
+ghost use Rattle.table.specs.Table.{freshSlot};
+ghost use Rattle.slots.specs.Slots.{slotAt, searched, Within, Surveyed, Looked};
 
 pub mod keys;
 pub mod surveys;
@@ -61,15 +70,36 @@ pub fn search(slots: &[Slot], time: u64, key: Key) -> Found
 }
 
 // What Allocate asks of the slots, in one pass over them.
-pub fn survey(slots: &[Slot], time: u64, five_tuple: FiveTuple, user: u8) -> Survey
-    ensures { λ r. ⌜ Surveyed (now (slots .entry)) time «five_tuple» user r ⌝ }
+fn survey(slots: &[Slot], wanted: Wanted) -> Survey
+    ensures { λ r. ⌜ Surveyed (now (slots .entry)) wanted r ⌝ }
 {
     let mut survey = first_survey();
     let mut i: usize = 0;
     while i < slots.len() {
         let allocation = allocation_at(slots, i);
-        survey = surveyed_with(survey, i, time, five_tuple, user, allocation);
+        survey = surveyed_with(survey, i, wanted, allocation);
         i += 1;
     }
     survey
+}
+
+// One look over the slots: up to the slot of the key, or over all of them where room is wanted.
+pub fn look(slots: &[Slot], wanted: Wanted) -> Survey
+    ensures { λ r. ⌜ Looked (now (slots .entry)) wanted r ⌝ }
+{
+    if wants_room(wanted) {
+        return survey(slots, wanted);
+    }
+    only_own(search(slots, wanted_time(wanted), wanted_key(wanted)))
+}
+
+// The slot of the key, or a fresh one where there is none.
+pub fn own_slot(slots: &[Slot], survey: Survey) -> Slot
+    requires { ⌜ Within (survey .own) (length (now slots)) ⌝ }
+    ensures { λ r. ⌜ r ≡ atOr freshSlot (survey .own) (now (slots .entry)) ⌝ }
+{
+    if !has_own(survey) {
+        return fresh_slot();
+    }
+    slot_at(slots, own_place(survey))
 }

@@ -1,10 +1,11 @@
-// What Allocate asks of the slots, all of it in one pass: a survey of no slots, and of one slot more.
-use address::FiveTuple;
+// What a look over the slots learns: a survey of no slots, and of one slot more.
+use crate::keys::Wanted;
+use crate::keys::matches;
 use table::Allocation;
 use table::Found;
 use table::allocations::allocation_is_live;
-use table::allocations::holds;
 use table::allocations::holds_user;
+use table::has;
 use table::or_else;
 use table::ports::Ports;
 use table::ports::no_ports;
@@ -17,11 +18,12 @@ ghost use lib.ListN.{getD};
 ghost use Rattle.choice.specs.Choice.{pick, both};
 ghost use Rattle.table.specs.HeldPorts.{heldIn};
 ghost use Rattle.table.specs.declared.Found.the-variants.{At, Nothing};
-ghost use Rattle.slots.specs.Slots.{SurveyedNone, SurveyedWith};
+ghost use Rattle.table.specs.Search.{has};
+ghost use Rattle.slots.specs.Slots.{placeOf, SurveyedNone, SurveyedWith};
 
 pub struct Survey {
-    // Whether a live slot has the 5-tuple.
-    pub own: bool,
+    // The lowest live slot of the key.
+    pub own: Found,
     // How many live slots the user holds.
     pub held: usize,
     // The lowest slot that isn't live.
@@ -30,21 +32,51 @@ pub struct Survey {
     pub ports: Ports,
 }
 
-pub fn first_survey() -> Survey
+pub(crate) fn first_survey() -> Survey
     ensures { λ r. ⌜ SurveyedNone r ⌝ }
 {
     Survey {
-        own: false,
+        own: Found::Nothing,
         held: 0,
         free: Found::Nothing,
         ports: no_ports(),
     }
 }
 
-fn either(a: bool, b: bool) -> bool
-    ensures { λ r. ⌜ r ≡ pick a true b ⌝ }
+// The survey that knows of the key's slot alone.
+pub(crate) fn only_own(own: Found) -> Survey
+    ensures { λ r. ⌜ r .own ≡ own ⌝ }
 {
-    if a { true } else { b }
+    Survey {
+        own,
+        held: 0,
+        free: Found::Nothing,
+        ports: no_ports(),
+    }
+}
+
+// The place that was found; it is asked for only where there is one.
+pub fn place_of(found: Found) -> usize
+    ensures { λ r. ⌜ r ≡ placeOf found ⌝ }
+{
+    match found {
+        Found::At(k) => k,
+        Found::Nothing => 0,
+    }
+}
+
+pub(crate) fn has_own(survey: Survey) -> bool
+    ensures { λ r. ⌜ r ≡ has (survey .own) ⌝ }
+{
+    let own = survey.own;
+    has(own)
+}
+
+pub(crate) fn own_place(survey: Survey) -> usize
+    ensures { λ r. ⌜ r ≡ placeOf (survey .own) ⌝ }
+{
+    let own = survey.own;
+    place_of(own)
 }
 
 fn counted(count: usize, counts: bool) -> usize
@@ -74,23 +106,25 @@ fn mark(live: bool, port: u16, ports: Ports) -> Ports
 }
 
 // The survey of the slots before slot i and of it, which has this allocation.
-pub fn surveyed_with(
+pub(crate) fn surveyed_with(
     survey: Survey,
     i: usize,
-    time: u64,
-    five_tuple: FiveTuple,
-    user: u8,
+    wanted: Wanted,
     allocation: Allocation,
 ) -> Survey
     requires { ⌜ survey .held < 2 ^ 63 ⌝ }
-    ensures { λ r. ⌜ SurveyedWith survey i time «five_tuple» user allocation r ⌝ }
+    ensures { λ r. ⌜ SurveyedWith survey i wanted allocation r ⌝ }
 {
+    let time = wanted.time;
     let live = allocation_is_live(time, allocation);
-    let own = either(survey.own, holds(time, five_tuple, allocation));
-    let held = counted(survey.held, holds_user(time, user, allocation));
-    let before = survey.free;
-    let here = found_here(i, !live);
-    let free = or_else(before, here);
+    let key = wanted.key;
+    let mine = found_here(i, matches(time, key, allocation));
+    let held = counted(survey.held, holds_user(time, wanted.user, allocation));
+    let lapsed = found_here(i, !live);
+    let own_before = survey.own;
+    let own = or_else(own_before, mine);
+    let free_before = survey.free;
+    let free = or_else(free_before, lapsed);
     let marked = survey.ports;
     let ports = mark(live, allocation.port, marked);
     Survey {

@@ -5,8 +5,10 @@ use Rattle.walk.proofs.Lends.{lend-slice, back-slice, lend-ref, back-ref, show-
 use borrow.Table.Copies.{halved, cRf}
 use borrow.Table.Referent.{fInt}
 use Rattle.relay.proofs.Rows.{call-row, call-typed, outcome-row, outcome-typed}
-use Rattle.relay.specs.declared.calls.Call.{Call}
-use Rattle.relay.proofs.calls.Call as Call-t
+use Rattle.relay.specs.declared.state.Bookkeeping.{Bookkeeping}
+use Rattle.relay.proofs.state.Bookkeeping as Bookkeeping-t
+use Rattle.relay.specs.declared.incoming.Call.{Call}
+use Rattle.relay.proofs.incoming.Call as Call-t
 use Rattle.rules.specs.declared.answer.Outcome.{Outcome}
 use Rattle.rules.proofs.answer.Outcome as Outcome-t
 use Rattle.table.specs.declared.Slot.{Slot}
@@ -19,7 +21,7 @@ use Rattle.script.proofs.put_outcome as put-outcome
 use Rattle.script.proofs.put_outcome.Symbol as put-outcome-def
 use Rattle.script.proofs.put_outcome.Symbol.{name as #script·put-outcome}
 use Rattle.script.proofs.put_outcome.Met as put-outcome-thm
-use Rattle.relay.specs.Step.{act}
+use Rattle.relay.specs.State.{state}
 use Rattle.script.specs.Run.{Called}
 use Rattle.script.proofs.Run.{take-short, called}
 use Rattle.script.proofs.answer_call.Key.{name as #script·answer-call}
@@ -28,14 +30,14 @@ use Rattle.script.proofs.answer_call.Statement as stated
 use Rattle.script.proofs.answer_call.Code as code
 
 abbrev stayed : Stays (answer-call.ended .signature .params) (answer-call.ended .kept)
-stayed = (stay-slice (0 ∷ []) tt (plain (λ _. Slot-t.the-row)), (stay-ref (1 ∷ []) tt (plain (λ _. u64)), (stay-none (λ _. Call-t.the-row) yes, (stay-none-slice (2 ∷ []) tt (plain (λ _. u8)) yes, (stay-none (λ _. u64) yes, (stay-slice (3 ∷ []) tt (plain (λ _. u8)), (stay-slice (4 ∷ []) tt (plain (λ _. u8)), tt)))))))
+stayed = (stay-slice (0 ∷ []) tt (plain (λ _. Slot-t.the-row)), (stay-ref (1 ∷ []) tt (plain (λ _. Bookkeeping-t.the-row)), (stay-none (λ _. Call-t.the-row) yes, (stay-none-slice (2 ∷ []) tt (plain (λ _. u8)) yes, (stay-none (λ _. u64) yes, (stay-slice (3 ∷ []) tt (plain (λ _. u8)), (stay-slice (4 ∷ []) tt (plain (λ _. u8)), tt)))))))
 
 module _ {M : Type 1} (𝓤 : URA M) (H : Heap 𝓤) (A : Atoms 𝓤) (W : Given 𝓤 H A) (mem : Memory → SProp 𝓤) (run : Routine → Fun 𝓤) (κs : Lfts 5) (qs : Shares 5) (a : Args answer-call.signature κs) (is-call : Is Call-t.the-row (a .1 .1 .0) (call-row .val (a .1 .1 .0) ∷ [])) (g-len : a .1 .1 .1 .1 .0 < 2 ^ 64) where
   abbrev slots : List Slot
   slots = a .0 .now
 
-  abbrev now-clock : ℕ
-  now-clock = a .1 .0 .now
+  abbrev now-bookkeeping : Bookkeeping
+  now-bookkeeping = a .1 .0 .now
 
   abbrev call : Call
   call = a .1 .1 .0
@@ -58,8 +60,8 @@ module _ {M : Type 1} (𝓤 : URA M) (H : Heap 𝓤) (A : Atoms 𝓤) (W : Given
   abbrev Own-slots : List Slot → Item 𝓤
   Own-slots v = ‵ (MutSlice (named 0) (κs .0) Slot-t.the-row .own (ref (a .0 .ptr .0) (a .0 .ptr .1) (a .0 .name) v) (sliceVal (a .0 .ptr) (length slots) ∷ []))
 
-  abbrev Own-clock : ℕ → Item 𝓤
-  Own-clock v = ‵ (MutRef (named 1) (κs .1 .0) u64 .own (ref (a .1 .0 .ptr .0) (a .1 .0 .ptr .1) (a .1 .0 .name) v) (vptr (a .1 .0 .ptr .0) (a .1 .0 .ptr .1) ∷ []))
+  abbrev Own-bookkeeping : Bookkeeping → Item 𝓤
+  Own-bookkeeping v = ‵ (MutRef (named 1) (κs .1 .0) Bookkeeping-t.the-row .own (ref (a .1 .0 .ptr .0) (a .1 .0 .ptr .1) (a .1 .0 .name) v) (vptr (a .1 .0 .ptr .0) (a .1 .0 .ptr .1) ∷ []))
 
   abbrev Own-buffer : List ℕ → Item 𝓤
   Own-buffer v = ‵ (ShrSlice (named 2) (κs .1 .1 .0) u8 .own (ref (a .1 .1 .1 .0 .ptr .0) (a .1 .1 .1 .0 .ptr .1) (a .1 .1 .1 .0 .name) v) (sliceVal (a .1 .1 .1 .0 .ptr) (length buffer) ∷ []))
@@ -89,21 +91,21 @@ module _ {M : Type 1} (𝓤 : URA M) (H : Heap 𝓤) (A : Atoms 𝓤) (W : Given
   Post = walkOf 𝓤 H A answer-call.ended stayed (answer-call.clauses 𝓤 H A mem run) .post ((κs, qs, tt, a, at), tt)
 
   -- what the `ensures` says of the result and of the last values
-  abbrev Said : ℕ → List Slot → ℕ → List ℕ → List ℕ → Type 0
-  Said r z-slots z-clock z-reply z-output = Called (act now-clock slots call (take len buffer) (length reply)) call (take len buffer) slots z-slots now-clock z-clock reply z-reply output z-output r
+  abbrev Said : ℕ → List Slot → Bookkeeping → List ℕ → List ℕ → Type 0
+  Said r z-slots z-bookkeeping z-reply z-output = Called (state slots now-bookkeeping) call (take len buffer) (state z-slots z-bookkeeping) reply z-reply output z-output r
 
-  exits : (r : ℕ) (z-slots : List Slot) (z-clock : ℕ) (z-reply : List ℕ) (z-output : List ℕ) → Said r z-slots z-clock z-reply z-output → length z-slots ≡ length slots → length z-reply ≡ length reply → length z-output ≡ length output → Is u64 r (vint w64 r ∷ [])
-      → ent 𝓤 (⋆ 𝓤 H A (Own-slots z-slots ∷ t0 ∷ Own-clock z-clock ∷ t1 ∷ Own-buffer buffer ∷ t2 ∷ Own-reply z-reply ∷ t3 ∷ Own-output z-output ∷ t4 ∷ [])) (Post (vint w64 r))
-  exits r z-slots z-clock z-reply z-output e l-slots l-reply l-output is =
-      qed W (Own-slots z-slots ∷ t0 ∷ Own-clock z-clock ∷ t1 ∷ Own-buffer buffer ∷ t2 ∷ Own-reply z-reply ∷ t3 ∷ Own-output z-output ∷ t4 ∷ []) ∵
-      suffices ! _ (ends-at 𝓤 H A answer-call.ended stayed (answer-call.clauses 𝓤 H A mem run) W ((κs, qs, tt, a, at), tt) (vint w64 r) r (z-slots, (z-clock, (tt, (tt, (tt, (z-reply, (z-output, tt))))))) (l-slots, (tt, (tt, (tt, (tt, (l-reply, (l-output, tt)))))))) $ says ! e $
+  exits : (r : ℕ) (z-slots : List Slot) (z-bookkeeping : Bookkeeping) (z-reply : List ℕ) (z-output : List ℕ) → Said r z-slots z-bookkeeping z-reply z-output → length z-slots ≡ length slots → length z-reply ≡ length reply → length z-output ≡ length output → Is u64 r (vint w64 r ∷ [])
+      → ent 𝓤 (⋆ 𝓤 H A (Own-slots z-slots ∷ t0 ∷ Own-bookkeeping z-bookkeeping ∷ t1 ∷ Own-buffer buffer ∷ t2 ∷ Own-reply z-reply ∷ t3 ∷ Own-output z-output ∷ t4 ∷ [])) (Post (vint w64 r))
+  exits r z-slots z-bookkeeping z-reply z-output e l-slots l-reply l-output is =
+      qed W (Own-slots z-slots ∷ t0 ∷ Own-bookkeeping z-bookkeeping ∷ t1 ∷ Own-buffer buffer ∷ t2 ∷ Own-reply z-reply ∷ t3 ∷ Own-output z-output ∷ t4 ∷ []) ∵
+      suffices ! _ (ends-at 𝓤 H A answer-call.ended stayed (answer-call.clauses 𝓤 H A mem run) W ((κs, qs, tt, a, at), tt) (vint w64 r) r (z-slots, (z-bookkeeping, (tt, (tt, (tt, (z-reply, (z-output, tt))))))) (l-slots, (tt, (tt, (tt, (tt, (l-reply, (l-output, tt)))))))) $ says ! e $
       nothing ! $ move ! (10 ∷ 0 ∷ []) $ join ! $ move ! (8 ∷ 0 ∷ []) $ join ! $ move ! (6 ∷ 0 ∷ []) $ join ! $ move ! (4 ∷ 0 ∷ []) $ join ! $ move ! (2 ∷ 0 ∷ []) $ join ! $ frame ! $
       nothing ! $ move ! (5 ∷ 0 ∷ []) $ fjoin ! $ move ! (4 ∷ 0 ∷ []) $ fjoin ! $ owned ! u64 (Is u64) ((uint-row w64) .makes 𝓤 H A W) len _ (refl, g-len) $ fjoin ! $ move ! (3 ∷ 0 ∷ []) $ fjoin ! $ owned ! Call-t.the-row (Is Call-t.the-row) (call-row .makes 𝓤 H A W) call _ is-call $ fjoin ! $ move ! (2 ∷ 0 ∷ []) $ fjoin ! $ move ! (1 ∷ 0 ∷ []) $ fjoin ! $ frame ! $ owned ! u64 (Is u64) ((uint-row w64) .makes 𝓤 H A W) r _ is $ done !
 
   module _ (C : Calls 𝓤 H) (Λ : Loops 𝓤 H) (fm : FmC 𝓤 H (W .laws) C) (known-relay-datagram : Triple 𝓤 (C #relay·relay-datagram) (Of 𝓤 H A relay-datagram.ended (relay-datagram.clauses 𝓤 H A mem run))) (known-put-outcome : Triple 𝓤 (C #script·put-outcome) (Of 𝓤 H A put-outcome.ended (put-outcome.clauses 𝓤 H A mem run))) where
     walk : Room Slot-t.the-row (length slots) → Room u8 (length buffer) → Room u8 (length reply) → Room u8 (length output) → ((len ≤ length buffer) × (length buffer ≤ 1600)) × ((length reply ≤ 1600) × (4096 ≤ length output)) → ent 𝓤 (onEntry 𝓤 H A answer-call.signature κs qs a at) (WpFn 𝓤 H C Λ code.function (sliceVal (a .0 .ptr) (length slots) ∷ vptr (a .1 .0 .ptr .0) (a .1 .0 .ptr .1) ∷ call-row .val call ∷ sliceVal (a .1 .1 .1 .0 .ptr) (length buffer) ∷ vint w64 len ∷ sliceVal (a .1 .1 .1 .1 .1 .0 .ptr) (length reply) ∷ sliceVal (a .1 .1 .1 .1 .1 .1 .0 .ptr) (length output) ∷ []) Post)
     walk room-slots room-buffer room-reply room-output asked =
-        qed W ((t0 ⊛ (t1 ⊛ (t2 ⊛ (t3 ⊛ (t4 ⊛ ‵ ftrue))))) ∷ ‵ (owns (MutSlice (named 0) (κs .0) Slot-t.the-row ∷ MutRef (named 1) (κs .1 .0) u64 ∷ Call-t.the-row ∷ ShrSlice (named 2) (κs .1 .1 .0) u8 ∷ u64 ∷ MutSlice (named 3) (κs .1 .1 .1 .0) u8 ∷ MutSlice (named 4) (κs .1 .1 .1 .1 .0) u8 ∷ []) a at) ∷ []) ∵
+        qed W ((t0 ⊛ (t1 ⊛ (t2 ⊛ (t3 ⊛ (t4 ⊛ ‵ ftrue))))) ∷ ‵ (owns (MutSlice (named 0) (κs .0) Slot-t.the-row ∷ MutRef (named 1) (κs .1 .0) Bookkeeping-t.the-row ∷ Call-t.the-row ∷ ShrSlice (named 2) (κs .1 .1 .0) u8 ∷ u64 ∷ MutSlice (named 3) (κs .1 .1 .1 .0) u8 ∷ MutSlice (named 4) (κs .1 .1 .1 .1 .0) u8 ∷ []) a at) ∷ []) ∵
         split ! $ move ! (1 ∷ []) $ split ! $ move ! (1 ∷ []) $ split ! $ move ! (1 ∷ []) $ split ! $ move ! (1 ∷ []) $ split ! $ move ! (6 ∷ []) $ fsplit ! $ move ! (1 ∷ []) $ fsplit ! $ move ! (1 ∷ []) $ fsplit ! $ drop ! $ fsplit ! $ move ! (1 ∷ []) $ fsplit ! $ drop ! $ fsplit ! $ move ! (1 ∷ []) $ fsplit ! $ move ! (1 ∷ []) $ keep ! (5 ∷ 11 ∷ 4 ∷ 10 ∷ 3 ∷ 9 ∷ 2 ∷ 8 ∷ 1 ∷ 6 ∷ []) $
         enter ! C Λ code.function (sliceVal (a .0 .ptr) (length slots) ∷ vptr (a .1 .0 .ptr .0) (a .1 .0 .ptr .1) ∷ call-row .val call ∷ sliceVal (a .1 .1 .1 .0 .ptr) (length buffer) ∷ vint w64 len ∷ sliceVal (a .1 .1 .1 .1 .1 .0 .ptr) (length reply) ∷ sliceVal (a .1 .1 .1 .1 .1 .1 .0 .ptr) (length output) ∷ []) _ $
         alloc1 ! (λ l₀. alloc1 ! (λ l₁. alloc1 ! (λ l₂. alloc1 ! (λ l₃. alloc1 ! (λ l₄. alloc1 ! (λ l₅. alloc1 ! (λ l₆. alloc1 ! (λ l₇. alloc1 ! (λ l₈. alloc1 ! (λ l₉. alloc1 ! (λ l₁₀. alloc1 ! (λ l₁₁. alloc1 ! (λ l₁₂. alloc1 ! (λ l₁₃. alloc1 ! (λ l₁₄. alloc1 ! (λ l₁₅. alloc1 ! (λ l₁₆. alloc1 ! (λ l₁₇. alloc1 ! (λ l₁₈. alloc1 ! (λ l₁₉. alloc0 ! $ params1 ! $
@@ -120,12 +122,12 @@ module _ {M : Type 1} (𝓤 : URA M) (H : Heap 𝓤) (A : Atoms 𝓤) (W : Given
         -- `relay_datagram`
         move ! (6 ∷ 7 ∷ []) $ lend-slice ! tt u8 (named 3) (named 3) (a .1 .1 .1 .1 .1 .0 .ptr .0) (a .1 .1 .1 .1 .1 .0 .ptr .1) reply (sliceVal (a .1 .1 .1 .1 .1 .0 .ptr) (length reply)) (λ ν-relay-datagram-reply δ-relay-datagram-reply.
         move ! (8 ∷ 9 ∷ []) $ cut-slice ! tt u8 (halved 𝓤 H A W (cRf (fInt w8))) (named 2) (a .1 .1 .1 .0 .ptr .0) (a .1 .1 .1 .0 .ptr .1) buffer len (sliceVal (a .1 .1 .1 .0 .ptr) (length buffer)) (asked .0 .0) (λ δ-relay-datagram-datagram.
-        move ! (10 ∷ 11 ∷ []) $ lend-ref ! tt u64 (named 1) (named 1) (a .1 .0 .ptr .0) (a .1 .0 .ptr .1) now-clock (λ ν-relay-datagram-clock δ-relay-datagram-clock.
+        move ! (10 ∷ 11 ∷ []) $ lend-ref ! tt Bookkeeping-t.the-row (named 1) (named 1) (a .1 .0 .ptr .0) (a .1 .0 .ptr .1) now-bookkeeping (λ ν-relay-datagram-bookkeeping δ-relay-datagram-bookkeeping.
         move ! (12 ∷ 13 ∷ []) $ lend-slice ! tt Slot-t.the-row (named 0) (named 0) (a .0 .ptr .0) (a .0 .ptr .1) slots (sliceVal (a .0 .ptr) (length slots)) (λ ν-relay-datagram-slots δ-relay-datagram-slots.
         nothing ! $ move ! (14 ∷ 0 ∷ []) $ join ! $ move ! (10 ∷ 0 ∷ []) $ join ! $ move ! (6 ∷ 0 ∷ []) $ join ! $ move ! (2 ∷ 0 ∷ []) $ join ! $ nothing ! $ move ! (11 ∷ 0 ∷ []) $ fjoin ! $ move ! (8 ∷ 0 ∷ []) $ fjoin ! $ owned ! Call-t.the-row (Is Call-t.the-row) (call-row .makes 𝓤 H A W) call _ is-call $ fjoin ! $ move ! (5 ∷ 0 ∷ []) $ fjoin ! $ move ! (2 ∷ 0 ∷ []) $ fjoin ! $ move ! (1 ∷ 0 ∷ []) $
-        calls-any ! fm relay-datagram.ended (relay-datagram.clauses 𝓤 H A mem run) (ν-relay-datagram-slots ∷ [], (ν-relay-datagram-clock ∷ [], (κs .1 .1 .0, (ν-relay-datagram-reply ∷ [], tt)))) (fullShare, (fullShare, (qs .1 .1 .0, (fullShare, tt)))) tt outcome-row (ref (a .0 .ptr .0) (a .0 .ptr .1) δ-relay-datagram-slots slots, (ref (a .1 .0 .ptr .0) (a .1 .0 .ptr .1) δ-relay-datagram-clock now-clock, (call, (ref (a .1 .1 .1 .0 .ptr .0) (a .1 .1 .1 .0 .ptr .1) δ-relay-datagram-datagram (take len buffer), (ref (a .1 .1 .1 .1 .1 .0 .ptr .0) (a .1 .1 .1 .1 .1 .0 .ptr .1) δ-relay-datagram-reply reply, tt))))) (sliceVal (a .0 .ptr) (length slots) ∷ [], (vptr (a .1 .0 .ptr .0) (a .1 .0 .ptr .1) ∷ [], (call-row .val call ∷ [], (sliceVal (a .1 .1 .1 .0 .ptr) len ∷ [], (sliceVal (a .1 .1 .1 .1 .1 .0 .ptr) (length reply) ∷ [], tt))))) tt (λ r ws. _) known-relay-datagram (asks-none 𝓤 H A) (λ r ws. id⊢ 𝓤 _)
+        calls-any ! fm relay-datagram.ended (relay-datagram.clauses 𝓤 H A mem run) (ν-relay-datagram-slots ∷ [], (ν-relay-datagram-bookkeeping ∷ [], (κs .1 .1 .0, (ν-relay-datagram-reply ∷ [], tt)))) (fullShare, (fullShare, (qs .1 .1 .0, (fullShare, tt)))) tt outcome-row (ref (a .0 .ptr .0) (a .0 .ptr .1) δ-relay-datagram-slots slots, (ref (a .1 .0 .ptr .0) (a .1 .0 .ptr .1) δ-relay-datagram-bookkeeping now-bookkeeping, (call, (ref (a .1 .1 .1 .0 .ptr .0) (a .1 .1 .1 .0 .ptr .1) δ-relay-datagram-datagram (take len buffer), (ref (a .1 .1 .1 .1 .1 .0 .ptr .0) (a .1 .1 .1 .1 .1 .0 .ptr .1) δ-relay-datagram-reply reply, tt))))) (sliceVal (a .0 .ptr) (length slots) ∷ [], (vptr (a .1 .0 .ptr .0) (a .1 .0 .ptr .1) ∷ [], (call-row .val call ∷ [], (sliceVal (a .1 .1 .1 .0 .ptr) len ∷ [], (sliceVal (a .1 .1 .1 .1 .1 .0 .ptr) (length reply) ∷ [], tt))))) tt (λ r ws. _) known-relay-datagram (asks-none 𝓤 H A) (λ r ws. id⊢ 𝓤 _)
         (and-then ! (load ! (from ! (stop !)) (look ! 25 refl)) (and-then ! (load ! (from ! (stop !)) (look ! 23 refl)) (and-then ! (load ! (from ! (stop !)) (look ! 43 refl)) (and-then ! (load ! (from ! (stop !)) (look ! 33 refl)) (and-then ! (load ! (from ! (stop !)) (look ! 19 refl)) (no-more !)))))) (λ r-relay-datagram ws-relay-datagram is-relay-datagram e-relay-datagram.
-        split ! $ move ! (1 ∷ []) $ split ! $ move ! (1 ∷ []) $ split ! $ move ! (1 ∷ []) $ split ! $ move ! (1 ∷ []) $ drop ! $ move ! (4 ∷ []) $ fsplit ! $ fsplit ! $ move ! (1 ∷ []) $ feqL ! (λ l-relay-datagram-slots. move ! (0 ∷ 5 ∷ 6 ∷ 7 ∷ []) $ back-slice ! tt Slot-t.the-row (named 0) (a .0 .ptr .0) (a .0 .ptr .1) slots (ws-relay-datagram .0) (sliceVal (a .0 .ptr) (length slots)) l-relay-datagram-slots refl room-slots $ move ! (2 ∷ []) $ fsplit ! $ move ! (0 ∷ 6 ∷ 7 ∷ 8 ∷ []) $ back-ref ! tt u64 (named 1) (a .1 .0 .ptr .0) (a .1 .0 .ptr .1) now-clock (ws-relay-datagram .1 .0) $ move ! (2 ∷ []) $ fsplit ! $ drop ! $ fsplit ! $ drop ! $ move ! (6 ∷ 7 ∷ 8 ∷ []) $ move ! (1 ∷ 0 ∷ 2 ∷ []) $ move ! (2 ∷ []) $ drop ! $ move ! (2 ∷ []) $ fsplit ! $ fsplit ! $ move ! (1 ∷ []) $ feqL ! (λ l-relay-datagram-reply. move ! (0 ∷ 8 ∷ 9 ∷ 10 ∷ []) $ back-slice ! tt u8 (named 3) (a .1 .1 .1 .1 .1 .0 .ptr .0) (a .1 .1 .1 .1 .1 .0 .ptr .1) reply (ws-relay-datagram .1 .1 .1 .1 .0) (sliceVal (a .1 .1 .1 .1 .1 .0 .ptr) (length reply)) l-relay-datagram-reply refl room-reply $ move ! (2 ∷ []) $ drop ! $
+        split ! $ move ! (1 ∷ []) $ split ! $ move ! (1 ∷ []) $ split ! $ move ! (1 ∷ []) $ split ! $ move ! (1 ∷ []) $ drop ! $ move ! (4 ∷ []) $ fsplit ! $ fsplit ! $ move ! (1 ∷ []) $ feqL ! (λ l-relay-datagram-slots. move ! (0 ∷ 5 ∷ 6 ∷ 7 ∷ []) $ back-slice ! tt Slot-t.the-row (named 0) (a .0 .ptr .0) (a .0 .ptr .1) slots (ws-relay-datagram .0) (sliceVal (a .0 .ptr) (length slots)) l-relay-datagram-slots refl room-slots $ move ! (2 ∷ []) $ fsplit ! $ move ! (0 ∷ 6 ∷ 7 ∷ 8 ∷ []) $ back-ref ! tt Bookkeeping-t.the-row (named 1) (a .1 .0 .ptr .0) (a .1 .0 .ptr .1) now-bookkeeping (ws-relay-datagram .1 .0) $ move ! (2 ∷ []) $ fsplit ! $ drop ! $ fsplit ! $ drop ! $ move ! (6 ∷ 7 ∷ 8 ∷ []) $ move ! (1 ∷ 0 ∷ 2 ∷ []) $ move ! (2 ∷ []) $ drop ! $ move ! (2 ∷ []) $ fsplit ! $ fsplit ! $ move ! (1 ∷ []) $ feqL ! (λ l-relay-datagram-reply. move ! (0 ∷ 8 ∷ 9 ∷ 10 ∷ []) $ back-slice ! tt u8 (named 3) (a .1 .1 .1 .1 .1 .0 .ptr .0) (a .1 .1 .1 .1 .1 .0 .ptr .1) reply (ws-relay-datagram .1 .1 .1 .1 .0) (sliceVal (a .1 .1 .1 .1 .1 .0 .ptr) (length reply)) l-relay-datagram-reply refl room-reply $ move ! (2 ∷ []) $ drop ! $
         land ! (from ! (stop !)) (init ! 30 refl (outcome-typed 𝓤 H A W r-relay-datagram is-relay-datagram)) $
         assigns ! (addr ! (from ! (fld ! refl (hop ! (look-in ! 34 (sub ! 0 refl (whole !))) (stop !))))) (from ! (stop !)) (init ! 16 refl (tt, tt)) $
         assigns ! (agg ! (and-then ! (load ! (from ! (stop !)) (look ! 16 refl)) (and-then ! (load ! (from ! (fld ! refl (stop !))) (look-in ! 34 (sub ! 1 refl (whole !)))) (no-more !)))) (from ! (stop !)) (init ! 14 refl (tt, (tt, (record { fits = room-output .0 }, tt)))) $
@@ -152,9 +154,9 @@ answer-call-spec 𝓤 H 𝓜 𝓖 𝓡 =
     let run = 𝓡 .run in
     let C = tables 𝓤 H 𝓜 𝓡 code.env .C in
     let Λ = tables 𝓤 H 𝓜 𝓡 code.env .Λ in
-    finish 𝓤 H 𝓜 𝓖 𝓡 code.env answer-call.ended stayed (goes-slice 𝓤 H A W 5 0 tt (plain (λ _. Slot-t.the-row)), (goes-ref 𝓤 H A W 5 1 tt (plain (λ _. u64)), (goes-none 𝓤 H A W 5 (λ _. Call-t.the-row) yes (λ κs x f. refl), (goes-none-slice 𝓤 H A W 5 (2 ∷ []) tt (plain (λ _. u8)) yes, (goes-none 𝓤 H A W 5 (λ _. u64) yes (λ κs x f. refl), (goes-slice 𝓤 H A W 5 3 tt (plain (λ _. u8)), (goes-slice 𝓤 H A W 5 4 tt (plain (λ _. u8)), tt)))))))
+    finish 𝓤 H 𝓜 𝓖 𝓡 code.env answer-call.ended stayed (goes-slice 𝓤 H A W 5 0 tt (plain (λ _. Slot-t.the-row)), (goes-ref 𝓤 H A W 5 1 tt (plain (λ _. Bookkeeping-t.the-row)), (goes-none 𝓤 H A W 5 (λ _. Call-t.the-row) yes (λ κs x f. refl), (goes-none-slice 𝓤 H A W 5 (2 ∷ []) tt (plain (λ _. u8)) yes, (goes-none 𝓤 H A W 5 (λ _. u64) yes (λ κs x f. refl), (goes-slice 𝓤 H A W 5 3 tt (plain (λ _. u8)), (goes-slice 𝓤 H A W 5 4 tt (plain (λ _. u8)), tt)))))))
     (answer-call.clauses 𝓤 H A mem run) #script·answer-call code.function (code.unfolded 𝓤 H 𝓜 𝓡)
-    (walked 𝓤 H A answer-call.ended stayed (answer-call.clauses 𝓤 H A mem run) (WpFn 𝓤 H C Λ code.function) (λ κs. (slice-vals, (ptr-vals, ((λ x. call-row .val x ∷ []), (slice-vals, (uint-vals w64, (slice-vals, (slice-vals, tt)))))))) (λ κs. (mut-slice-tells (named 0) (κs .0) Slot-t.the-row, (mut-tells (named 1) (κs .1 .0) u64, (call-row .tells, (shr-slice-tells (named 2) (κs .1 .1 .0) u8, (uint-tells w64, (mut-slice-tells (named 3) (κs .1 .1 .1 .0) u8, (mut-slice-tells (named 4) (κs .1 .1 .1 .1 .0) u8, tt))))))))
+    (walked 𝓤 H A answer-call.ended stayed (answer-call.clauses 𝓤 H A mem run) (WpFn 𝓤 H C Λ code.function) (λ κs. (slice-vals, (ptr-vals, ((λ x. call-row .val x ∷ []), (slice-vals, (uint-vals w64, (slice-vals, (slice-vals, tt)))))))) (λ κs. (mut-slice-tells (named 0) (κs .0) Slot-t.the-row, (mut-tells (named 1) (κs .1 .0) Bookkeeping-t.the-row, (call-row .tells, (shr-slice-tells (named 2) (κs .1 .1 .0) u8, (uint-tells w64, (mut-slice-tells (named 3) (κs .1 .1 .1 .0) u8, (mut-slice-tells (named 4) (κs .1 .1 .1 .1 .0) u8, tt))))))))
     (λ κs qs bounds a g are. needs 𝓤 ((((a .1 .1 .1 .1 .0) ≤ length (a .1 .1 .1 .0 .now)) × (length (a .1 .1 .1 .0 .now) ≤ 1600)) × ((length (a .1 .1 .1 .1 .1 .0 .now) ≤ 1600) × (4096 ≤ length (a .1 .1 .1 .1 .1 .1 .0 .now)))) _
     (walk 𝓤 H A W mem run κs qs a (are .1 .1 .0) (are .1 .1 .1 .1 .0 .1) C Λ (framed-calls 𝓤 H 𝓜 𝓖 𝓡 code.env)
     (cited 𝓤 H (Of 𝓤 H A relay-datagram.ended (relay-datagram.clauses 𝓤 H A mem run)) 𝓜 𝓡 code.env #relay·relay-datagram relay-datagram-def.routine code.calls-relay·relay-datagram (relay-datagram-thm.met 𝓤 H 𝓜 𝓖 𝓡))

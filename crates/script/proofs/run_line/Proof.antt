@@ -4,8 +4,10 @@ use Rattle.walk.proofs.Walk.{uint-row, bool-row, ref, shown, asks-none, array-r
 use Rattle.walk.proofs.Lends.{lend-slice, back-slice, lend-ref, back-ref, copy-slice, lend-array-at, back-array-at, show-array-at, hide-array-at, calls-lent}
 use Rattle.relay.proofs.Rows.{call-row, call-typed}
 use Rattle.script.proofs.Rows.{readline-row, readline-typed}
-use Rattle.relay.specs.declared.calls.Call.{Call}
-use Rattle.relay.proofs.calls.Call as Call-t
+use Rattle.relay.specs.declared.state.Bookkeeping.{Bookkeeping}
+use Rattle.relay.proofs.state.Bookkeeping as Bookkeeping-t
+use Rattle.relay.specs.declared.incoming.Call.{Call}
+use Rattle.relay.proofs.incoming.Call as Call-t
 use Rattle.script.specs.declared.lines.ReadLine.{ReadLine}
 use Rattle.table.specs.declared.Slot.{Slot}
 use Rattle.table.proofs.Slot as Slot-t
@@ -34,6 +36,7 @@ use Rattle.script.proofs.answer_call.Symbol as answer-call-def
 use Rattle.script.proofs.answer_call.Symbol.{name as #script·answer-call}
 use Rattle.script.proofs.answer_call.Met as answer-call-thm
 use borrow.Author.Tests.{ltb-false}
+use Rattle.relay.specs.State.{state}
 use Rattle.script.specs.Lines.{lineOf}
 use Rattle.script.specs.Run.{lineIn, Runs}
 use Rattle.script.proofs.Run.{runs-small, length-fits, runs-bad, runs-asks}
@@ -43,14 +46,14 @@ use Rattle.script.proofs.run_line.Statement as stated
 use Rattle.script.proofs.run_line.Code as code
 
 abbrev stayed : Stays (run-line.ended .signature .params) (run-line.ended .kept)
-stayed = (stay-slice (0 ∷ []) tt (plain (λ _. Slot-t.the-row)), (stay-ref (1 ∷ []) tt (plain (λ _. u64)), (stay-none-slice (2 ∷ []) tt (plain (λ _. u8)) yes, (stay-none (λ _. u64) yes, (stay-none (λ _. u64) yes, (stay-slice (3 ∷ []) tt (plain (λ _. u8)), tt))))))
+stayed = (stay-slice (0 ∷ []) tt (plain (λ _. Slot-t.the-row)), (stay-ref (1 ∷ []) tt (plain (λ _. Bookkeeping-t.the-row)), (stay-none-slice (2 ∷ []) tt (plain (λ _. u8)) yes, (stay-none (λ _. u64) yes, (stay-none (λ _. u64) yes, (stay-slice (3 ∷ []) tt (plain (λ _. u8)), tt))))))
 
 module _ {M : Type 1} (𝓤 : URA M) (H : Heap 𝓤) (A : Atoms 𝓤) (W : Given 𝓤 H A) (mem : Memory → SProp 𝓤) (run : Routine → Fun 𝓤) (κs : Lfts 4) (qs : Shares 4) (a : Args run-line.signature κs) (g-start : a .1 .1 .1 .0 < 2 ^ 64) (g-end : a .1 .1 .1 .1 .0 < 2 ^ 64) where
   abbrev slots : List Slot
   slots = a .0 .now
 
-  abbrev now-clock : ℕ
-  now-clock = a .1 .0 .now
+  abbrev now-bookkeeping : Bookkeeping
+  now-bookkeeping = a .1 .0 .now
 
   abbrev input : List ℕ
   input = a .1 .1 .0 .now
@@ -70,8 +73,8 @@ module _ {M : Type 1} (𝓤 : URA M) (H : Heap 𝓤) (A : Atoms 𝓤) (W : Given
   abbrev Own-slots : List Slot → Item 𝓤
   Own-slots v = ‵ (MutSlice (named 0) (κs .0) Slot-t.the-row .own (ref (a .0 .ptr .0) (a .0 .ptr .1) (a .0 .name) v) (sliceVal (a .0 .ptr) (length slots) ∷ []))
 
-  abbrev Own-clock : ℕ → Item 𝓤
-  Own-clock v = ‵ (MutRef (named 1) (κs .1 .0) u64 .own (ref (a .1 .0 .ptr .0) (a .1 .0 .ptr .1) (a .1 .0 .name) v) (vptr (a .1 .0 .ptr .0) (a .1 .0 .ptr .1) ∷ []))
+  abbrev Own-bookkeeping : Bookkeeping → Item 𝓤
+  Own-bookkeeping v = ‵ (MutRef (named 1) (κs .1 .0) Bookkeeping-t.the-row .own (ref (a .1 .0 .ptr .0) (a .1 .0 .ptr .1) (a .1 .0 .name) v) (vptr (a .1 .0 .ptr .0) (a .1 .0 .ptr .1) ∷ []))
 
   abbrev Own-input : List ℕ → Item 𝓤
   Own-input v = ‵ (ShrSlice (named 2) (κs .1 .1 .0) u8 .own (ref (a .1 .1 .0 .ptr .0) (a .1 .1 .0 .ptr .1) (a .1 .1 .0 .name) v) (sliceVal (a .1 .1 .0 .ptr) (length input) ∷ []))
@@ -95,21 +98,21 @@ module _ {M : Type 1} (𝓤 : URA M) (H : Heap 𝓤) (A : Atoms 𝓤) (W : Given
   Post = walkOf 𝓤 H A run-line.ended stayed (run-line.clauses 𝓤 H A mem run) .post ((κs, qs, tt, a, at), tt)
 
   -- what the `ensures` says of the result and of the last values
-  abbrev Said : ℕ → List Slot → ℕ → List ℕ → Type 0
-  Said r z-slots z-clock z-output = Runs (lineOf (lineIn start end input)) slots z-slots now-clock z-clock output z-output r
+  abbrev Said : ℕ → List Slot → Bookkeeping → List ℕ → Type 0
+  Said r z-slots z-bookkeeping z-output = Runs (lineOf (lineIn start end input)) (state slots now-bookkeeping) (state z-slots z-bookkeeping) output z-output r
 
-  exits : (r : ℕ) (z-slots : List Slot) (z-clock : ℕ) (z-output : List ℕ) → Said r z-slots z-clock z-output → length z-slots ≡ length slots → length z-output ≡ length output → Is u64 r (vint w64 r ∷ [])
-      → ent 𝓤 (⋆ 𝓤 H A (Own-slots z-slots ∷ t0 ∷ Own-clock z-clock ∷ t1 ∷ Own-input input ∷ t2 ∷ Own-output z-output ∷ t3 ∷ [])) (Post (vint w64 r))
-  exits r z-slots z-clock z-output e l-slots l-output is =
-      qed W (Own-slots z-slots ∷ t0 ∷ Own-clock z-clock ∷ t1 ∷ Own-input input ∷ t2 ∷ Own-output z-output ∷ t3 ∷ []) ∵
-      suffices ! _ (ends-at 𝓤 H A run-line.ended stayed (run-line.clauses 𝓤 H A mem run) W ((κs, qs, tt, a, at), tt) (vint w64 r) r (z-slots, (z-clock, (tt, (tt, (tt, (z-output, tt)))))) (l-slots, (tt, (tt, (tt, (tt, (l-output, tt))))))) $ says ! e $
+  exits : (r : ℕ) (z-slots : List Slot) (z-bookkeeping : Bookkeeping) (z-output : List ℕ) → Said r z-slots z-bookkeeping z-output → length z-slots ≡ length slots → length z-output ≡ length output → Is u64 r (vint w64 r ∷ [])
+      → ent 𝓤 (⋆ 𝓤 H A (Own-slots z-slots ∷ t0 ∷ Own-bookkeeping z-bookkeeping ∷ t1 ∷ Own-input input ∷ t2 ∷ Own-output z-output ∷ t3 ∷ [])) (Post (vint w64 r))
+  exits r z-slots z-bookkeeping z-output e l-slots l-output is =
+      qed W (Own-slots z-slots ∷ t0 ∷ Own-bookkeeping z-bookkeeping ∷ t1 ∷ Own-input input ∷ t2 ∷ Own-output z-output ∷ t3 ∷ []) ∵
+      suffices ! _ (ends-at 𝓤 H A run-line.ended stayed (run-line.clauses 𝓤 H A mem run) W ((κs, qs, tt, a, at), tt) (vint w64 r) r (z-slots, (z-bookkeeping, (tt, (tt, (tt, (z-output, tt)))))) (l-slots, (tt, (tt, (tt, (tt, (l-output, tt))))))) $ says ! e $
       nothing ! $ move ! (8 ∷ 0 ∷ []) $ join ! $ move ! (6 ∷ 0 ∷ []) $ join ! $ move ! (4 ∷ 0 ∷ []) $ join ! $ move ! (2 ∷ 0 ∷ []) $ join ! $ frame ! $
       nothing ! $ move ! (4 ∷ 0 ∷ []) $ fjoin ! $ owned ! u64 (Is u64) ((uint-row w64) .makes 𝓤 H A W) end _ (refl, g-end) $ fjoin ! $ owned ! u64 (Is u64) ((uint-row w64) .makes 𝓤 H A W) start _ (refl, g-start) $ fjoin ! $ move ! (3 ∷ 0 ∷ []) $ fjoin ! $ move ! (2 ∷ 0 ∷ []) $ fjoin ! $ move ! (1 ∷ 0 ∷ []) $ fjoin ! $ frame ! $ owned ! u64 (Is u64) ((uint-row w64) .makes 𝓤 H A W) r _ is $ done !
 
   module _ (C : Calls 𝓤 H) (Λ : Loops 𝓤 H) (fm : FmC 𝓤 H (W .laws) C) (known-read-in : Triple 𝓤 (C #script·read-in) (Of 𝓤 H A read-in.ended (read-in.clauses 𝓤 H A mem run))) (known-is-bad : Triple 𝓤 (C #script·is-bad) (Of 𝓤 H A is-bad.ended (is-bad.clauses 𝓤 H A mem run))) (known-put-bad : Triple 𝓤 (C #script·put-bad) (Of 𝓤 H A put-bad.ended (put-bad.clauses 𝓤 H A mem run))) (known-call-in : Triple 𝓤 (C #script·call-in) (Of 𝓤 H A call-in.ended (call-in.clauses 𝓤 H A mem run))) (known-length-in : Triple 𝓤 (C #script·length-in) (Of 𝓤 H A length-in.ended (length-in.clauses 𝓤 H A mem run))) (known-answer-call : Triple 𝓤 (C #script·answer-call) (Of 𝓤 H A answer-call.ended (answer-call.clauses 𝓤 H A mem run))) where
     walk : Room Slot-t.the-row (length slots) → Room u8 (length input) → Room u8 (length output) → ent 𝓤 (onEntry 𝓤 H A run-line.signature κs qs a at) (WpFn 𝓤 H C Λ code.function (sliceVal (a .0 .ptr) (length slots) ∷ vptr (a .1 .0 .ptr .0) (a .1 .0 .ptr .1) ∷ sliceVal (a .1 .1 .0 .ptr) (length input) ∷ vint w64 start ∷ vint w64 end ∷ sliceVal (a .1 .1 .1 .1 .1 .0 .ptr) (length output) ∷ []) Post)
     walk room-slots room-input room-output =
-        qed W ((t0 ⊛ (t1 ⊛ (t2 ⊛ (t3 ⊛ ‵ ftrue)))) ∷ ‵ (owns (MutSlice (named 0) (κs .0) Slot-t.the-row ∷ MutRef (named 1) (κs .1 .0) u64 ∷ ShrSlice (named 2) (κs .1 .1 .0) u8 ∷ u64 ∷ u64 ∷ MutSlice (named 3) (κs .1 .1 .1 .0) u8 ∷ []) a at) ∷ []) ∵
+        qed W ((t0 ⊛ (t1 ⊛ (t2 ⊛ (t3 ⊛ ‵ ftrue)))) ∷ ‵ (owns (MutSlice (named 0) (κs .0) Slot-t.the-row ∷ MutRef (named 1) (κs .1 .0) Bookkeeping-t.the-row ∷ ShrSlice (named 2) (κs .1 .1 .0) u8 ∷ u64 ∷ u64 ∷ MutSlice (named 3) (κs .1 .1 .1 .0) u8 ∷ []) a at) ∷ []) ∵
         split ! $ move ! (1 ∷ []) $ split ! $ move ! (1 ∷ []) $ split ! $ move ! (1 ∷ []) $ split ! $ move ! (5 ∷ []) $ fsplit ! $ move ! (1 ∷ []) $ fsplit ! $ move ! (1 ∷ []) $ fsplit ! $ move ! (1 ∷ []) $ fsplit ! $ drop ! $ fsplit ! $ drop ! $ fsplit ! $ move ! (1 ∷ []) $ keep ! (4 ∷ 9 ∷ 3 ∷ 8 ∷ 2 ∷ 7 ∷ 1 ∷ 5 ∷ []) $
         enter ! C Λ code.function (sliceVal (a .0 .ptr) (length slots) ∷ vptr (a .1 .0 .ptr .0) (a .1 .0 .ptr .1) ∷ sliceVal (a .1 .1 .0 .ptr) (length input) ∷ vint w64 start ∷ vint w64 end ∷ sliceVal (a .1 .1 .1 .1 .1 .0 .ptr) (length output) ∷ []) _ $
         alloc1 ! (λ l₀. alloc1 ! (λ l₁. alloc1 ! (λ l₂. alloc1 ! (λ l₃. alloc1 ! (λ l₄. alloc1 ! (λ l₅. alloc1 ! (λ l₆. alloc1 ! (λ l₇. alloc1 ! (λ l₈. alloc1 ! (λ l₉. alloc1 ! (λ l₁₀. alloc1 ! (λ l₁₁. alloc1 ! (λ l₁₂. alloc1 ! (λ l₁₃. alloc1 ! (λ l₁₄. alloc1 ! (λ l₁₅. alloc1 ! (λ l₁₆. alloc1 ! (λ l₁₇. alloc1 ! (λ l₁₈. alloc1 ! (λ l₁₉. alloc1 ! (λ l₂₀. alloc1 ! (λ l₂₁. alloc1 ! (λ l₂₂. alloc1 ! (λ l₂₃. alloc1 ! (λ l₂₄. alloc1 ! (λ l₂₅. alloc1 ! (λ l₂₆. alloc0 ! $ params1 ! $
@@ -122,7 +125,7 @@ module _ {M : Type 1} (𝓤 : URA M) (H : Heap 𝓤) (A : Atoms 𝓤) (W : Given
         (λ held.
         assigns ! (of-opd ! (lit ! tt)) (from ! (stop !)) (init ! 60 refl (tt, record { fits = lit< tt })) $
         returns-within ! Post refl (look ! 60 refl) $ out ! 60 refl refl $ out ! 58 refl refl $ out ! 56 refl refl $ out ! 54 refl refl $ out ! 52 refl refl $ out ! 50 refl refl $ out ! 48 refl refl $ out-room ! 46 refl refl $ out-room ! 44 refl refl $ out-room ! 42 refl refl $ out ! 40 refl refl $ out ! 38 refl refl $ out-room ! 36 refl refl $ out-room ! 34 refl refl $ out-room ! 32 refl refl $ out-room ! 30 refl refl $ out-room ! 28 refl refl $ out-room ! 26 refl refl $ out-room ! 24 refl refl $ out-room ! 22 refl refl $ out-room ! 20 refl refl $ out-room ! 18 refl refl $ out-room ! 16 refl refl $ out-room ! 14 refl refl $ out-room ! 12 refl refl $ out-room ! 10 refl refl $ out-room ! 8 refl refl $ free0 ! $
-        keep ! (0 ∷ 1 ∷ 2 ∷ 3 ∷ 4 ∷ 5 ∷ 6 ∷ 7 ∷ []) $ by ! (exits 0 slots now-clock output (runs-small (lineOf (lineIn start end input)) (holds-true _ held)) refl refl (refl, lit< tt)))
+        keep ! (0 ∷ 1 ∷ 2 ∷ 3 ∷ 4 ∷ 5 ∷ 6 ∷ 7 ∷ []) $ by ! (exits 0 slots now-bookkeeping output (runs-small (lineOf (lineIn start end input)) (holds-true _ held)) refl refl (refl, lit< tt)))
         (λ failed.
         let long = fails-false _ failed in
         assigns ! (repeats ! (uint-row w8) 1600 0 (lit ! tt)) (from ! (stop !)) (init ! 46 refl ((array-row (uint-row w8) 1600) .lawful 𝓤 H A W .typed (replicate 1600 0) _ (is-repeat (uint-row w8) 1600 0 (refl, lit< tt)) .0)) $
@@ -150,7 +153,7 @@ module _ {M : Type 1} (𝓤 : URA M) (H : Heap 𝓤) (A : Atoms 𝓤) (W : Given
         calls-lent ! fm u8 (uint-row w64) (put-bad.clauses 𝓤 H A mem run) (λ r zs. _) (named 3) (a .1 .1 .1 .1 .1 .0 .ptr .0) (a .1 .1 .1 .1 .1 .0 .ptr .1) output (sliceVal (a .1 .1 .1 .1 .1 .0 .ptr) (length output)) (λ ν. tt) (λ ν. tt) (λ ν δ. tt) known-put-bad (λ ν. tt) (λ ν δ. (shown 𝓤 H A (ltb-false (length output) 4096 long))) (λ ν δ r ws. id⊢ 𝓤 _)
         (λ ν δ. (and-then ! (load ! (from ! (stop !)) (look ! 28 refl)) (no-more !))) (λ r-put-bad zs-put-bad l-put-bad is-put-bad e-put-bad. land ! (from ! (stop !)) (init ! 60 refl (tt, record { fits = is-put-bad .1 })) $
         returns-within ! Post refl (look ! 60 refl) $ out ! 60 refl refl $ out ! 58 refl refl $ out ! 56 refl refl $ out ! 54 refl refl $ out ! 52 refl refl $ out ! 50 refl refl $ out ! 48 refl refl $ out ! 46 refl refl $ out ! 44 refl refl $ out-room ! 42 refl refl $ out ! 40 refl refl $ out ! 38 refl refl $ out ! 36 refl refl $ out ! 34 refl refl $ out ! 32 refl refl $ out ! 30 refl refl $ out ! 28 refl refl $ out-room ! 26 refl refl $ out-room ! 24 refl refl $ out-room ! 22 refl refl $ out-room ! 20 refl refl $ out-room ! 18 refl refl $ out-room ! 16 refl refl $ out-room ! 14 refl refl $ out-room ! 12 refl refl $ out-room ! 10 refl refl $ out-room ! 8 refl refl $ free0 ! $
-        keep ! (4 ∷ 5 ∷ 6 ∷ 7 ∷ 2 ∷ 3 ∷ 0 ∷ 1 ∷ []) $ by ! (exits r-put-bad slots now-clock zs-put-bad (runs-bad (lineOf (lineIn start end input)) long e-read-in e-is-bad (holds-true _ held) e-put-bad) refl l-put-bad (refl, is-put-bad .1))))
+        keep ! (4 ∷ 5 ∷ 6 ∷ 7 ∷ 2 ∷ 3 ∷ 0 ∷ 1 ∷ []) $ by ! (exits r-put-bad slots now-bookkeeping zs-put-bad (runs-bad (lineOf (lineIn start end input)) long e-read-in e-is-bad (holds-true _ held) e-put-bad) refl l-put-bad (refl, is-put-bad .1))))
         (λ failed.
         assigns ! (repeats ! (uint-row w8) 1536 0 (lit ! tt)) (from ! (stop !)) (init ! 42 refl ((array-row (uint-row w8) 1536) .lawful 𝓤 H A W .typed (replicate 1536 0) _ (is-repeat (uint-row w8) 1536 0 (refl, lit< tt)) .0)) $
         assigns ! (addr ! (from ! (fld ! refl (hop ! (look-in ! 58 (sub ! 0 refl (whole !))) (stop !))))) (from ! (stop !)) (init ! 26 refl (tt, tt)) $
@@ -172,12 +175,12 @@ module _ {M : Type 1} (𝓤 : URA M) (H : Heap 𝓤) (A : Atoms 𝓤) (W : Given
         move ! (6 ∷ 7 ∷ []) $ lend-slice ! tt u8 (named 3) (named 4) (a .1 .1 .1 .1 .1 .0 .ptr .0) (a .1 .1 .1 .1 .1 .0 .ptr .1) output (sliceVal (a .1 .1 .1 .1 .1 .0 .ptr) (length output)) (λ ν-answer-call-output δ-answer-call-output.
         lend-array-at ! 44 tt (uint-row w8) tt 1536 (named 3) (replicate 1536 0) (is-repeat (uint-row w8) 1536 0 (refl, lit< tt)) (lit< tt, lit< tt) l₉ 0 refl (λ ν-answer-call-reply δ-answer-call-reply len-answer-call-reply.
         show-array-at ! 50 tt (uint-row w8) tt 1600 (named 2) (ws-read-in .1 .1 .1 .0) back-read-in-buffer (lit< tt, lit< tt) l₇ 0 refl (λ ν-answer-call-buffer δ-answer-call-buffer len-answer-call-buffer.
-        move ! (12 ∷ 13 ∷ []) $ lend-ref ! tt u64 (named 1) (named 1) (a .1 .0 .ptr .0) (a .1 .0 .ptr .1) now-clock (λ ν-answer-call-clock δ-answer-call-clock.
+        move ! (12 ∷ 13 ∷ []) $ lend-ref ! tt Bookkeeping-t.the-row (named 1) (named 1) (a .1 .0 .ptr .0) (a .1 .0 .ptr .1) now-bookkeeping (λ ν-answer-call-bookkeeping δ-answer-call-bookkeeping.
         move ! (14 ∷ 15 ∷ []) $ lend-slice ! tt Slot-t.the-row (named 0) (named 0) (a .0 .ptr .0) (a .0 .ptr .1) slots (sliceVal (a .0 .ptr) (length slots)) (λ ν-answer-call-slots δ-answer-call-slots.
         nothing ! $ move ! (14 ∷ 0 ∷ []) $ join ! $ move ! (12 ∷ 0 ∷ []) $ join ! $ move ! (10 ∷ 0 ∷ []) $ join ! $ move ! (6 ∷ 0 ∷ []) $ join ! $ move ! (2 ∷ 0 ∷ []) $ join ! $ nothing ! $ move ! (10 ∷ 0 ∷ []) $ fjoin ! $ move ! (9 ∷ 0 ∷ []) $ fjoin ! $ owned ! u64 (Is u64) ((uint-row w64) .makes 𝓤 H A W) r-length-in _ (refl, is-length-in .1) $ fjoin ! $ move ! (8 ∷ 0 ∷ []) $ fjoin ! $ owned ! Call-t.the-row (Is Call-t.the-row) (call-row .makes 𝓤 H A W) r-call-in _ is-call-in $ fjoin ! $ move ! (5 ∷ 0 ∷ []) $ fjoin ! $ move ! (2 ∷ 0 ∷ []) $ fjoin ! $ move ! (1 ∷ 0 ∷ []) $
-        calls-any ! fm answer-call.ended (answer-call.clauses 𝓤 H A mem run) (ν-answer-call-slots ∷ [], (ν-answer-call-clock ∷ [], (ν-answer-call-buffer ∷ [], (ν-answer-call-reply ∷ [], (ν-answer-call-output ∷ [], tt))))) (fullShare, (fullShare, (fullShare, (fullShare, (fullShare, tt))))) tt (uint-row w64) (ref (a .0 .ptr .0) (a .0 .ptr .1) δ-answer-call-slots slots, (ref (a .1 .0 .ptr .0) (a .1 .0 .ptr .1) δ-answer-call-clock now-clock, (r-call-in, (ref l₇ 0 δ-answer-call-buffer (ws-read-in .1 .1 .1 .0), (r-length-in, (ref l₉ 0 δ-answer-call-reply (replicate 1536 0), (ref (a .1 .1 .1 .1 .1 .0 .ptr .0) (a .1 .1 .1 .1 .1 .0 .ptr .1) δ-answer-call-output output, tt))))))) (sliceVal (a .0 .ptr) (length slots) ∷ [], (vptr (a .1 .0 .ptr .0) (a .1 .0 .ptr .1) ∷ [], (call-row .val r-call-in ∷ [], (sliceVal (l₇, 0) 1600 ∷ [], (vint w64 r-length-in ∷ [], (sliceVal (l₉, 0) 1536 ∷ [], (sliceVal (a .1 .1 .1 .1 .1 .0 .ptr) (length output) ∷ [], tt))))))) tt (λ r ws. _) known-answer-call (shown 𝓤 H A ((length-fits (lineOf (lineIn start end input)) e-read-in e-length-in, omega (arith, l-read-in-buffer, length-replicate {A = ℕ} 1600 0)), (omega (arith, length-replicate {A = ℕ} 1536 0), ltb-false (length output) 4096 long))) (λ r ws. id⊢ 𝓤 _)
+        calls-any ! fm answer-call.ended (answer-call.clauses 𝓤 H A mem run) (ν-answer-call-slots ∷ [], (ν-answer-call-bookkeeping ∷ [], (ν-answer-call-buffer ∷ [], (ν-answer-call-reply ∷ [], (ν-answer-call-output ∷ [], tt))))) (fullShare, (fullShare, (fullShare, (fullShare, (fullShare, tt))))) tt (uint-row w64) (ref (a .0 .ptr .0) (a .0 .ptr .1) δ-answer-call-slots slots, (ref (a .1 .0 .ptr .0) (a .1 .0 .ptr .1) δ-answer-call-bookkeeping now-bookkeeping, (r-call-in, (ref l₇ 0 δ-answer-call-buffer (ws-read-in .1 .1 .1 .0), (r-length-in, (ref l₉ 0 δ-answer-call-reply (replicate 1536 0), (ref (a .1 .1 .1 .1 .1 .0 .ptr .0) (a .1 .1 .1 .1 .1 .0 .ptr .1) δ-answer-call-output output, tt))))))) (sliceVal (a .0 .ptr) (length slots) ∷ [], (vptr (a .1 .0 .ptr .0) (a .1 .0 .ptr .1) ∷ [], (call-row .val r-call-in ∷ [], (sliceVal (l₇, 0) 1600 ∷ [], (vint w64 r-length-in ∷ [], (sliceVal (l₉, 0) 1536 ∷ [], (sliceVal (a .1 .1 .1 .1 .1 .0 .ptr) (length output) ∷ [], tt))))))) tt (λ r ws. _) known-answer-call (shown 𝓤 H A ((length-fits (lineOf (lineIn start end input)) e-read-in e-length-in, omega (arith, l-read-in-buffer, length-replicate {A = ℕ} 1600 0)), (omega (arith, length-replicate {A = ℕ} 1536 0), ltb-false (length output) 4096 long))) (λ r ws. id⊢ 𝓤 _)
         (and-then ! (load ! (from ! (stop !)) (look ! 25 refl)) (and-then ! (load ! (from ! (stop !)) (look ! 23 refl)) (and-then ! (load ! (from ! (stop !)) (look ! 21 refl)) (and-then ! (load ! (from ! (stop !)) (look ! 17 refl)) (and-then ! (load ! (from ! (stop !)) (look ! 41 refl)) (and-then ! (load ! (from ! (stop !)) (look ! 13 refl)) (and-then ! (load ! (from ! (stop !)) (look ! 9 refl)) (no-more !)))))))) (λ r-answer-call ws-answer-call is-answer-call e-answer-call.
-        split ! $ move ! (1 ∷ []) $ split ! $ move ! (1 ∷ []) $ split ! $ move ! (1 ∷ []) $ split ! $ move ! (1 ∷ []) $ split ! $ move ! (1 ∷ []) $ drop ! $ move ! (5 ∷ []) $ fsplit ! $ fsplit ! $ move ! (1 ∷ []) $ feqL ! (λ l-answer-call-slots. move ! (0 ∷ 6 ∷ 7 ∷ 8 ∷ []) $ back-slice ! tt Slot-t.the-row (named 0) (a .0 .ptr .0) (a .0 .ptr .1) slots (ws-answer-call .0) (sliceVal (a .0 .ptr) (length slots)) l-answer-call-slots refl room-slots $ move ! (2 ∷ []) $ fsplit ! $ move ! (0 ∷ 7 ∷ 8 ∷ 9 ∷ []) $ back-ref ! tt u64 (named 1) (a .1 .0 .ptr .0) (a .1 .0 .ptr .1) now-clock (ws-answer-call .1 .0) $ move ! (2 ∷ []) $ fsplit ! $ drop ! $ fsplit ! $ drop ! $ move ! (7 ∷ []) $
+        split ! $ move ! (1 ∷ []) $ split ! $ move ! (1 ∷ []) $ split ! $ move ! (1 ∷ []) $ split ! $ move ! (1 ∷ []) $ split ! $ move ! (1 ∷ []) $ drop ! $ move ! (5 ∷ []) $ fsplit ! $ fsplit ! $ move ! (1 ∷ []) $ feqL ! (λ l-answer-call-slots. move ! (0 ∷ 6 ∷ 7 ∷ 8 ∷ []) $ back-slice ! tt Slot-t.the-row (named 0) (a .0 .ptr .0) (a .0 .ptr .1) slots (ws-answer-call .0) (sliceVal (a .0 .ptr) (length slots)) l-answer-call-slots refl room-slots $ move ! (2 ∷ []) $ fsplit ! $ move ! (0 ∷ 7 ∷ 8 ∷ 9 ∷ []) $ back-ref ! tt Bookkeeping-t.the-row (named 1) (a .1 .0 .ptr .0) (a .1 .0 .ptr .1) now-bookkeeping (ws-answer-call .1 .0) $ move ! (2 ∷ []) $ fsplit ! $ drop ! $ fsplit ! $ drop ! $ move ! (7 ∷ []) $
         hide-array-at ! 49 tt (uint-row w8) tt 1600 (ws-read-in .1 .1 .1 .0) l₇ 0 refl len-answer-call-buffer (λ back-answer-call-buffer.
         fsplit ! $ drop ! $ fsplit ! $ fsplit ! $ move ! (1 ∷ []) $ feqL ! (λ l-answer-call-reply. move ! (0 ∷ 7 ∷ []) $
         back-array-at ! 44 tt (uint-row w8) tt 1536 (ws-answer-call .1 .1 .1 .1 .1 .0) l₉ 0 refl (λ back-answer-call-reply.
@@ -195,9 +198,9 @@ run-line-spec 𝓤 H 𝓜 𝓖 𝓡 =
     let run = 𝓡 .run in
     let C = tables 𝓤 H 𝓜 𝓡 code.env .C in
     let Λ = tables 𝓤 H 𝓜 𝓡 code.env .Λ in
-    finish 𝓤 H 𝓜 𝓖 𝓡 code.env run-line.ended stayed (goes-slice 𝓤 H A W 4 0 tt (plain (λ _. Slot-t.the-row)), (goes-ref 𝓤 H A W 4 1 tt (plain (λ _. u64)), (goes-none-slice 𝓤 H A W 4 (2 ∷ []) tt (plain (λ _. u8)) yes, (goes-none 𝓤 H A W 4 (λ _. u64) yes (λ κs x f. refl), (goes-none 𝓤 H A W 4 (λ _. u64) yes (λ κs x f. refl), (goes-slice 𝓤 H A W 4 3 tt (plain (λ _. u8)), tt))))))
+    finish 𝓤 H 𝓜 𝓖 𝓡 code.env run-line.ended stayed (goes-slice 𝓤 H A W 4 0 tt (plain (λ _. Slot-t.the-row)), (goes-ref 𝓤 H A W 4 1 tt (plain (λ _. Bookkeeping-t.the-row)), (goes-none-slice 𝓤 H A W 4 (2 ∷ []) tt (plain (λ _. u8)) yes, (goes-none 𝓤 H A W 4 (λ _. u64) yes (λ κs x f. refl), (goes-none 𝓤 H A W 4 (λ _. u64) yes (λ κs x f. refl), (goes-slice 𝓤 H A W 4 3 tt (plain (λ _. u8)), tt))))))
     (run-line.clauses 𝓤 H A mem run) #script·run-line code.function (code.unfolded 𝓤 H 𝓜 𝓡)
-    (walked 𝓤 H A run-line.ended stayed (run-line.clauses 𝓤 H A mem run) (WpFn 𝓤 H C Λ code.function) (λ κs. (slice-vals, (ptr-vals, (slice-vals, (uint-vals w64, (uint-vals w64, (slice-vals, tt))))))) (λ κs. (mut-slice-tells (named 0) (κs .0) Slot-t.the-row, (mut-tells (named 1) (κs .1 .0) u64, (shr-slice-tells (named 2) (κs .1 .1 .0) u8, (uint-tells w64, (uint-tells w64, (mut-slice-tells (named 3) (κs .1 .1 .1 .0) u8, tt)))))))
+    (walked 𝓤 H A run-line.ended stayed (run-line.clauses 𝓤 H A mem run) (WpFn 𝓤 H C Λ code.function) (λ κs. (slice-vals, (ptr-vals, (slice-vals, (uint-vals w64, (uint-vals w64, (slice-vals, tt))))))) (λ κs. (mut-slice-tells (named 0) (κs .0) Slot-t.the-row, (mut-tells (named 1) (κs .1 .0) Bookkeeping-t.the-row, (shr-slice-tells (named 2) (κs .1 .1 .0) u8, (uint-tells w64, (uint-tells w64, (mut-slice-tells (named 3) (κs .1 .1 .1 .0) u8, tt)))))))
     (λ κs qs bounds a g are. via 𝓤 _ (fst∗ 𝓤 _ (emp 𝓤))
     (walk 𝓤 H A W mem run κs qs a (are .1 .1 .1 .0 .1) (are .1 .1 .1 .1 .0 .1) C Λ (framed-calls 𝓤 H 𝓜 𝓖 𝓡 code.env)
     (cited 𝓤 H (Of 𝓤 H A read-in.ended (read-in.clauses 𝓤 H A mem run)) 𝓜 𝓡 code.env #script·read-in read-in-def.routine code.calls-script·read-in (read-in-thm.met 𝓤 H 𝓜 𝓖 𝓡))

@@ -7,7 +7,7 @@ use Rattle.slots.proofs.surveys.first_survey.Tie as tie
 
 returns : tie.Need-returns
 unfolding find count
-returns c time fiveTuple user = record { own = refl; held = refl; free = refl; ports = λ k h. c .no-ports .ensures k h }
+returns c wanted = record { own = refl; held = refl; free = refl; ports = λ k h. c .no-ports .ensures k h }
 
 pub first-survey-spec : {M : Type 1} → statement M
 first-survey-spec = tie.close (tie.spec (λ c. search needs) returns)

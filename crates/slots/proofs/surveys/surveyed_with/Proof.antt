@@ -8,13 +8,22 @@ returns : tie.Need-returns
 unfolding holdsPort
 returns c =
     surveyed-with
-    (rw (← c .before .before .before .before .before .before .before .holds .ensures) (c .before .before .before .before .before .before .either .ensures))
-    (rw (← c .before .before .before .before .before .holds-user .ensures) (c .before .before .before .before .counted .ensures))
-    (rw (← c .before .before .before .before .before .before .before .before .allocation-is-live .ensures, ← c .before .before .before .found-here .ensures) (c .before .before .or-else .ensures))
-    (λ k h. rw (← c .before .before .before .before .before .before .before .before .allocation-is-live .ensures) (c .mark .ensures k h))
+    (rw (← c .before .before .before .before .before .before .before .before .matches .ensures, ← c .before .before .before .before .before .before .before .found-here .ensures) (c .before .before .before .or-else .ensures))
+    (rw (← c .before .before .before .before .before .before .holds-user .ensures) (c .before .before .before .before .before .counted .ensures))
+    (rw (← c .before .before .before .before .before .before .before .before .before .allocation-is-live .ensures, ← c .before .before .before .before .found-here2 .ensures) (c .before .before .or-else2 .ensures))
+    (λ k h. rw (← c .before .before .before .before .before .before .before .before .before .allocation-is-live .ensures) (c .mark .ensures k h))
 
 pub surveyed-with-spec : {M : Type 1} → statement M
 surveyed-with-spec =
     tie.close
-    (tie.spec (λ c. search needs) (λ c. search needs) (λ c. search needs) (λ c. search needs) (λ c. search needs) (λ c. search needs)
-    (λ c. search needs) (λ c. search needs) returns)
+    (tie.spec
+    (λ c. search needs)
+    (λ c. search needs)
+    (λ c. search needs)
+    (λ c. search needs)
+    (λ c. search needs)
+    (λ c. search needs)
+    (λ c. search needs)
+    (λ c. search needs)
+    (λ c. search needs)
+    returns)

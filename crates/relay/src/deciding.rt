@@ -1,0 +1,256 @@
+// What a call does, by value: what it asks, the look over the slots that this needs, and what becomes of the slot that was found.
+use crate::incoming::Call;
+use crate::incoming::FromClient;
+use crate::incoming::FromPeer;
+use rules::answer::Answer;
+use rules::answer::Outcome;
+use rules::channels::channel_bind;
+use rules::client::Asked;
+use rules::client::asked_by;
+use rules::data::channelled;
+use rules::data::from_peer;
+use rules::data::send;
+use rules::permissions::create_permission;
+use rules::ports::port_for;
+use rules::requests::ClientCall;
+use rules::requests::allocate;
+use rules::requests::refresh;
+use slots::keys::Key;
+use slots::keys::Wanted;
+use slots::surveys::Survey;
+use slots::surveys::place_of;
+use table::Found;
+use table::Slot;
+use table::has;
+ghost use mathlib.Core.Path.{_≡_};
+ghost use mathlib.Core.Bool.{not};
+ghost use Prim.Native.Nat.{_≤_};
+ghost use lib.ListN.{length};
+ghost use Rattle.relay.specs.declared.incoming.Call.the-variants.{Client, Peer};
+ghost use Rattle.rules.specs.declared.client.Asked.the-variants as AskedIs;
+ghost use Rattle.rules.specs.Client.{askedBy};
+ghost use Rattle.relay.specs.Step.{asRules, onAsked, decided};
+ghost use Rattle.relay.specs.Inner.{ReadyClient, ReadyPeer, Ready, UserFits, askedFor, allocates, wantedBy, saw, placeIn, unwritten, Answering};
+
+pub(crate) fn asked_for(datagram: &[u8], call: Call) -> Asked
+    ensures { λ r. ⌜ r ≡ askedFor call (now (datagram .entry)) ⌝ }
+{
+    match call {
+        Call::Client(_) => asked_by(datagram),
+        Call::Peer(_) => Asked::Nothing,
+    }
+}
+
+fn allocates(asked: Asked) -> bool
+    ensures { λ r. ⌜ r ≡ allocates asked ⌝ }
+{
+    match asked {
+        Asked::Allocate => true,
+        Asked::Refresh => false,
+        Asked::CreatePermission => false,
+        Asked::ChannelBind => false,
+        Asked::Send => false,
+        Asked::ChannelData => false,
+        Asked::Nothing => false,
+    }
+}
+
+// What the look over the slots is for.
+pub(crate) fn wanted_by(call: Call, asked: Asked) -> Wanted
+    requires { ⌜ UserFits call ⌝ }
+    ensures { λ r. ⌜ r ≡ wantedBy call asked ⌝ }
+{
+    match call {
+        Call::Client(c) => {
+            let five_tuple = c.five_tuple;
+            let key = Key::Client(five_tuple);
+            Wanted {
+                time: c.time,
+                key,
+                room: allocates(asked),
+                user: c.user as u8,
+            }
+        }
+        Call::Peer(p) => {
+            let key = Key::Port(p.port);
+            Wanted {
+                time: p.time,
+                key,
+                room: false,
+                user: 0,
+            }
+        }
+    }
+}
+
+// What a call asks, and what the look over the slots learned for it.
+pub struct Seen {
+    pub asked: Asked,
+    pub survey: Survey,
+}
+
+pub(crate) fn with_survey(asked: Asked, survey: Survey) -> Seen
+    ensures { λ r. ⌜ r ≡ saw asked survey ⌝ }
+{
+    Seen { asked, survey }
+}
+
+pub(crate) fn survey_of(seen: Seen) -> Survey
+    ensures { λ r. ⌜ r ≡ seen .survey ⌝ }
+{
+    seen.survey
+}
+
+// The place of the slot that is written: the lowest that isn't live for Allocate, the caller's own for every other request.
+pub(crate) fn place_for(seen: Seen) -> usize
+    ensures { λ r. ⌜ r ≡ placeIn seen ⌝ }
+{
+    let asked = seen.asked;
+    let survey = seen.survey;
+    if allocates(asked) {
+        let free = survey.free;
+        return place_of(free);
+    }
+    let own = survey.own;
+    place_of(own)
+}
+
+// A client's call as the rules take it.
+fn client_call(call: FromClient) -> ClientCall
+    requires { ⌜ call .user ≤ 32 ⌝ }
+    ensures { λ r. ⌜ r ≡ asRules call ⌝ }
+{
+    let five_tuple = call.five_tuple;
+    ClientCall {
+        time: call.time,
+        user: call.user as u8,
+        relay: call.relay,
+        five_tuple,
+    }
+}
+
+// ---- The answers. `own` is the slot that was found, or a fresh one where none was.
+
+// An Allocate, with what it asks of the whole table.
+fn answer_allocate(
+    datagram: &[u8],
+    reply: &mut [u8],
+    call: FromClient,
+    survey: Survey,
+    own: Slot,
+) -> Answer
+    requires { ⌜ ReadyClient call (now datagram) (now reply) × (20 ≤ length (now datagram)) ⌝ }
+    ensures { λ r. ⌜ Answering (Client call) AskedIs.Allocate (λ slots. onAsked call (now (datagram .entry)) slots AskedIs.Allocate .change) survey own (now (reply .entry)) (now (reply .exit)) r ⌝ }
+{
+    let found = survey.own;
+    let free = survey.free;
+    let ports = survey.ports;
+    let asked = rules::requests::Survey {
+        own: has(found),
+        held: survey.held,
+        free: has(free),
+        port: port_for(ports, call.start),
+    };
+    allocate(datagram, reply, client_call(call), asked, own)
+}
+
+// Data passes or is dropped, and no slot is written.
+fn answer_data(outcome: Outcome, own: Slot) -> Answer
+    ensures { λ r. ⌜ r ≡ unwritten outcome own ⌝ }
+{
+    Answer {
+        outcome,
+        writes: false,
+        slot: own,
+    }
+}
+
+fn answer_client(
+    datagram: &[u8],
+    reply: &mut [u8],
+    call: FromClient,
+    asked: Asked,
+    survey: Survey,
+    own: Slot,
+) -> Answer
+    requires { ⌜ ReadyClient call (now datagram) (now reply) × (asked ≡ askedBy (now datagram)) ⌝ }
+    ensures { λ r. ⌜ Answering (Client call) asked (λ slots. onAsked call (now (datagram .entry)) slots asked .change) survey own (now (reply .entry)) (now (reply .exit)) r ⌝ }
+{
+    let found = survey.own;
+    match asked {
+        Asked::Allocate => answer_allocate(datagram, reply, call, survey, own),
+        Asked::Refresh => refresh(datagram, reply, client_call(call), has(found), own),
+        Asked::CreatePermission => {
+            create_permission(datagram, reply, client_call(call), has(found), own)
+        }
+        Asked::ChannelBind => channel_bind(datagram, reply, client_call(call), has(found), own),
+        Asked::Send => answer_data(send(datagram, client_call(call), has(found), own), own),
+        Asked::ChannelData => {
+            answer_data(
+                channelled(datagram, client_call(call), has(found), own),
+                own,
+            )
+        }
+        Asked::Nothing => answer_data(Outcome::Dropped, own),
+    }
+}
+
+fn answer_peer(
+    datagram: &[u8],
+    reply: &mut [u8],
+    call: FromPeer,
+    survey: Survey,
+    own: Slot,
+) -> Answer
+    requires { ⌜ ReadyPeer call (now datagram) (now reply) ⌝ }
+    ensures { λ r. ⌜ Answering (Peer call) AskedIs.Nothing (λ slots. decided (Peer call) (now (datagram .entry)) slots .change) survey own (now (reply .entry)) (now (reply .exit)) r ⌝ }
+{
+    let found = survey.own;
+    let outcome = from_peer(
+        datagram,
+        reply,
+        call.time,
+        call.source,
+        call.id,
+        has(found),
+        own,
+    );
+    answer_data(outcome, own)
+}
+
+// What a call that is not refused does.
+pub(crate) fn answer_call(
+    datagram: &[u8],
+    reply: &mut [u8],
+    call: Call,
+    seen: Seen,
+    own: Slot,
+) -> Answer
+    requires { ⌜ Ready call (now datagram) (now reply) × (seen .asked ≡ askedFor call (now datagram)) ⌝ }
+    ensures { λ r. ⌜ Answering call (seen .asked) (λ slots. decided call (now (datagram .entry)) slots .change) (seen .survey) own (now (reply .entry)) (now (reply .exit)) r ⌝ }
+{
+    let asked = seen.asked;
+    let survey = seen.survey;
+    match call {
+        Call::Client(c) => answer_client(datagram, reply, c, asked, survey, own),
+        Call::Peer(p) => answer_peer(datagram, reply, p, survey, own),
+    }
+}
+
+pub(crate) fn outcome_of(answer: Answer) -> Outcome
+    ensures { λ r. ⌜ r ≡ answer .outcome ⌝ }
+{
+    answer.outcome
+}
+
+pub(crate) fn slot_of(answer: Answer) -> Slot
+    ensures { λ r. ⌜ r ≡ answer .slot ⌝ }
+{
+    answer.slot
+}
+
+pub(crate) fn writes_none(answer: Answer) -> bool
+    ensures { λ r. ⌜ r ≡ not (answer .writes) ⌝ }
+{
+    !answer.writes
+}
