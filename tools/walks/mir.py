@@ -1,7 +1,7 @@
 # Reads what `rt mir CRATE` prints: the functions, their locals' types and their bodies.
 import re
 
-from .types import Array, Bool, Named, Number, Pointer, Reference, Slice, Unit
+from .types import Array, Bool, Named, Number, Pathed, Pointer, Reference, Slice, Unit
 
 WORD = re.compile(r'\s*(?:([()])|"([^"]*)"|([^\s()"]+))')
 
@@ -98,24 +98,12 @@ def is_loop(statement):
     return isinstance(statement, list) and statement[0] == 'block' and statement[1][0] == 'loop'
 
 
-class Function:
+class Function(Pathed):
     def __init__(self, path, item):
         self.path = path
         self.item = item
         self.lifetimes = int(item[1])
         self.count = int(item[3])
-
-    @property
-    def crate(self):
-        return self.path.split('::')[0]
-
-    @property
-    def modules(self):
-        return self.path.split('::')[1:-1]
-
-    @property
-    def name(self):
-        return self.path.split('::')[-1]
 
     @property
     def types(self):

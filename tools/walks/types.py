@@ -105,9 +105,8 @@ class Pointer(Type):
     mir = 'tyPtr'
 
 
-@dataclass(frozen=True)
-class Named(Type):
-    path: str
+class Pathed:
+    """What has a path: its crate, its modules and its own name."""
 
     @property
     def crate(self):
@@ -120,6 +119,25 @@ class Named(Type):
     @property
     def name(self):
         return self.path.split('::')[-1]
+
+
+class Compound(Type):
+    """A struct, an enum or an array: its row says what the machine holds for a value."""
+
+    @property
+    def pointee(self):
+        return 'pointee (%s .written)' % self.logic
+
+    def machine(self, text):
+        return '%s .val %s' % (self.row, atom(text))
+
+    def shown(self, value):
+        return value.fact
+
+
+@dataclass(frozen=True)
+class Named(Pathed, Compound):
+    path: str
 
     @property
     def low(self):
@@ -141,16 +159,6 @@ class Named(Type):
     def mir(self):
         return self.name + '-l.mir'
 
-    @property
-    def pointee(self):
-        return 'pointee (%s .written)' % self.logic
-
-    def machine(self, text):
-        return '%s .val %s' % (self.row, atom(text))
-
-    def shown(self, value):
-        return value.fact
-
     def typed(self, value):
         return '(%s-typed 𝓤 H A W %s %s)' % (self.low, atom(value.text), atom(value.fact))
 
@@ -159,7 +167,7 @@ class Named(Type):
 
 
 @dataclass(frozen=True)
-class Array(Type):
+class Array(Compound):
     of: Type
     size: int
 
@@ -179,16 +187,6 @@ class Array(Type):
     def mir(self):
         return 'lone (%s .mir)' % self.logic
 
-    @property
-    def pointee(self):
-        return 'pointee (%s .written)' % self.logic
-
-    def machine(self, text):
-        return '%s .val %s' % (self.row, atom(text))
-
-    def shown(self, value):
-        return value.fact
-
     def typed(self, value):
         return '((%s) .lawful 𝓤 H A W .typed %s _ %s .0)' % (self.row, atom(value.text), atom(value.fact))
 
@@ -197,12 +195,19 @@ class Array(Type):
 
 
 @dataclass(frozen=True)
-class Reference(Type):
-    """A `&T` or a `&mut T`."""
+class Lent(Type):
+    """A reference to one value or to a slice of them."""
     lifetime: int
     mutable: bool
     to: Type
     is_reference = True
+
+    def named(self):
+        return self.to.named()
+
+
+class Reference(Lent):
+    """A `&T` or a `&mut T`."""
 
     @property
     def owner(self):
@@ -217,17 +222,9 @@ class Reference(Type):
     def mir(self):
         return 'tyRef %s %s (%s)' % (lifetime_text(self.lifetime), 'mut' if self.mutable else 'imm', self.to.pointee)
 
-    def named(self):
-        return self.to.named()
 
-
-@dataclass(frozen=True)
-class Slice(Type):
+class Slice(Lent):
     """A `&[T]` or a `&mut [T]`."""
-    lifetime: int
-    mutable: bool
-    to: Type
-    is_reference = True
 
     @property
     def owner(self):
@@ -244,9 +241,6 @@ class Slice(Type):
 
     def typed(self, value):
         return '(tt, (tt, (record { fits = %s }, tt)))' % value.fact
-
-    def named(self):
-        return self.to.named()
 
 
 def lifetime_text(number):

@@ -1,6 +1,6 @@
 -- Every call's act is a change of the table that what it counts as allows.
 use Prim.Native.Nat.{ℕ, _+_, _<_, _≤_, _^_}
-use mathlib.Core.Path.{_≡_, refl, _∙_, ap}
+use mathlib.Core.Path.{_≡_, refl, sym, _∙_, ap}
 use mathlib.Core.Logic.{_≢_, _⊎_, inl, inr}
 use mathlib.Core.Bool.{Bool, true, false, not, false≢true}
 use mathlib.Core.List.{List, [], _∷_}
@@ -36,6 +36,7 @@ use Rattle.rules.specs.Requests.{allocated, allocate, renewed, refreshed, refre
 use Rattle.rules.specs.Data.{permitted, sentFrom, send, channelledFrom, channelled}
 use Rattle.rules.specs.declared.client.Asked.{Asked}
 use Rattle.rules.specs.declared.client.Asked.the-variants as Asked
+use Rattle.rules.proofs.Laws.{kept-not-written}
 use Rattle.rules.proofs.Accepted.{allocates, refreshes, permits, binds, granted-range, granted-refresh-range}
 use Rattle.relay.specs.declared.incoming.Call.{Call}
 use Rattle.relay.specs.declared.incoming.Call.the-variants.{Client, Peer}
@@ -71,7 +72,7 @@ keeps out u = record { quietly = λ o e. go o (same o e) u }
     go o e u = rw e at u
 
 writes : (slot : Slot) (out : Out) → Keeps (write slot out)
-writes slot out = record { quietly = λ o e. let z : _≡_ {A = ℕ} 0 1 = cc in let y : ⊥ = omega arith in absurd y }
+writes slot out = record { quietly = λ o e. kept-not-written (sym e) }
 
 respond-keeps : (fiveTuple : FiveTuple) (method : Method) (s : List ℕ) (code : ℕ) (slot : Slot) (out : Out) → Keeps (respond fiveTuple method s code (write slot out))
 unfolding respond
@@ -286,13 +287,10 @@ module _ (call : FromClient) (st : State) (s reply : List ℕ) (full : length (s
           let o = own-is (call .time) (call .«five_tuple») (slotAt (st .slots) k) (g .0) in
           f k (g .1) (o .0) (o .1) slot out (rw e at w)
 
-  never : {A : Type 0} (out o : Out) (slot : Slot) → keep out ≡ write slot o → A
-  never out o slot e = let z : _≡_ {A = ℕ} 0 1 = cc in let y : ⊥ = omega arith in absurd y
-
   made-data : (rule : Bool → Slot → Out) → ((own : Bool) (slot : Slot) → Unaccepted (rule own slot))
       → Makes (done st found (keep (rule (has found) (atOr freshSlot found (st .slots)))))
   made-data rule u =
-      made-own (λ own slot. keep (rule own slot)) (keeps _ (u _ _)) (λ slot out e. never _ out slot e) (λ k room live mine slot out e. never _ out slot e)
+      made-own (λ own slot. keep (rule own slot)) (keeps _ (u _ _)) (λ slot out e. kept-not-written e) (λ k room live mine slot out e. kept-not-written e)
 
   pub made-asked : (asked : Asked) → Makes (done st (onAsked call s (st .slots) asked .place) (onAsked call s (st .slots) asked .change))
   unfolding found refresh createPermission channelBind

@@ -37,7 +37,7 @@ use Rattle.rules.specs.Requests.{allocate, refresh, createPermission, channelBi
 use Rattle.rules.specs.Data.{send, channelled}
 use Rattle.rules.specs.Client.{kindAsks, classAsks, askedBy}
 use Rattle.rules.proofs.Accepted.{allocates as allocate-accepted, refreshes, permits, binds}
-use Rattle.rules.proofs.Laws.{well-formed-long}
+use Rattle.rules.proofs.Laws.{well-formed-long, kept-not-written}
 use Rattle.relay.specs.declared.incoming.Call.{Call}
 use Rattle.relay.specs.declared.incoming.Call.the-variants.{Client, Peer}
 use Rattle.relay.specs.declared.incoming.FromClient.{FromClient}
@@ -134,9 +134,6 @@ stun-long s {asked} it y i e = go (sorted s) e
 pub client-asked : {call : Call} {client : FromClient} {asked : Asked} (s : List ℕ) → call ≡ Client client → asked ≡ askedFor call s → asked ≡ askedBy s
 client-asked {call} {client} {asked} s e q = subst (λ (x : Call). asked ≡ askedFor x s) e q
 
-pub peer-asked : {call : Call} {peer : FromPeer} {asked : Asked} (s : List ℕ) → call ≡ Peer peer → asked ≡ askedFor call s → asked ≡ Asked.Nothing
-peer-asked {call} {peer} {asked} s e q = subst (λ (x : Call). asked ≡ askedFor x s) e q
-
 -- ---- The ports held, from the survey of the slots
 pub length-held : (time : ℕ) (slots : List Slot) (k n : ℕ) → length (portsHeld time slots k n) ≡ n
 unfolding portsHeld
@@ -203,22 +200,19 @@ peer-answers call {survey} {own} {reply} {reply′} {outcome} {there} h rule g s
 
 -- a slot is written only where one was found
 module _ (call : FromClient) (s : List ℕ) (slots : List Slot) where
-  never : {o out : Out} {slot : Slot} {A : Type 0} → keep o ≡ write slot out → A
-  never q = let z : _≡_ {A = ℕ} 0 1 = cc in let y : ⊥ = omega arith in absurd y
-
   asked-writes : (asked : Asked) (slot : Slot) (out : Out) → onAsked call s slots asked .change ≡ write slot out → has (onAsked call s slots asked .place) ≡ true
   asked-writes Asked.Allocate slot out e = allocate-accepted (asRules call) s slot out (surveyOf call slots) e .room
   asked-writes Asked.Refresh slot out e = refreshes (asRules call) s slot out _ _ e .owner .live
   asked-writes Asked.CreatePermission slot out e = permits (asRules call) s slot out _ _ e .owner .live
   asked-writes Asked.ChannelBind slot out e = binds (asRules call) s slot out _ _ e .owner .live
-  asked-writes Asked.Send slot out e = never e
-  asked-writes Asked.ChannelData slot out e = never e
-  asked-writes Asked.Nothing slot out e = never e
+  asked-writes Asked.Send slot out e = kept-not-written e
+  asked-writes Asked.ChannelData slot out e = kept-not-written e
+  asked-writes Asked.Nothing slot out e = kept-not-written e
 
 pub decided-writes : (call : Call) (s : List ℕ) (slots : List Slot) (slot : Slot) (out : Out) → decided call s slots .change ≡ write slot out → has (decided call s slots .place) ≡ true
 unfolding decided
 decided-writes (Client call) s slots slot out e = asked-writes call s slots (askedBy s) slot out e
-decided-writes (Peer call) s slots slot out e = let z : _≡_ {A = ℕ} 0 1 = cc in let y : ⊥ = omega arith in absurd y
+decided-writes (Peer call) s slots slot out e = kept-not-written e
 
 -- ---- The step
 
@@ -257,9 +251,9 @@ asked-place call s slots Asked.Allocate l slot out e = l .room refl .free
 asked-place call s slots Asked.Refresh l slot out e = l .own
 asked-place call s slots Asked.CreatePermission l slot out e = l .own
 asked-place call s slots Asked.ChannelBind l slot out e = l .own
-asked-place call s slots Asked.Send l slot out e = never call s slots e
-asked-place call s slots Asked.ChannelData l slot out e = never call s slots e
-asked-place call s slots Asked.Nothing l slot out e = never call s slots e
+asked-place call s slots Asked.Send l slot out e = kept-not-written e
+asked-place call s slots Asked.ChannelData l slot out e = kept-not-written e
+asked-place call s slots Asked.Nothing l slot out e = kept-not-written e
 
 places : (call : Call) (s : List ℕ) (slots : List Slot) {asked : Asked} {survey : Survey} → asked ≡ askedFor call s → Looked slots (wantedBy call asked) survey
     → (slot : Slot) (out : Out) → decided call s slots .change ≡ write slot out → placeFor asked survey ≡ decided call s slots .place
@@ -267,7 +261,7 @@ unfolding decided
 places (Client call) s slots {asked} {survey} a l slot out e =
     subst (λ (x : Asked). placeFor x survey ≡ onAsked call s slots (askedBy s) .place) (sym a)
     (asked-place call s slots (askedBy s) (subst (λ (x : Asked). Looked slots (wantedBy (Client call) x) survey) a l) slot out e)
-places (Peer call) s slots a l slot out e = let z : _≡_ {A = ℕ} 0 1 = cc in let y : ⊥ = omega arith in absurd y
+places (Peer call) s slots a l slot out e = kept-not-written e
 
 -- the slot that is decided about lies in the table
 decided-within : (call : Call) (s : List ℕ) (slots : List Slot) → Within (decided call s slots .place) (length slots)

@@ -61,6 +61,10 @@ pub kept : {out : Out} {outcome : Outcome} (was : Slot) (reply : List ℕ) → o
     → Answers (keep out) was reply reply (record { outcome = outcome; writes = false; slot = was })
 kept was reply e r = record { gives = record { outcome-is = e; reply-is = sym r }; writes = refl; slot = refl }
 
+-- what is kept is not written
+pub kept-not-written : {A : Type 0} {kept out : Out} {slot : Slot} → keep kept ≡ write slot out → A
+kept-not-written e = let z : _≡_ {A = ℕ} 0 1 = cc in let y : ⊥ = omega arith in absurd y
+
 -- ---- Send and ChannelData write no reply
 module _ (call : ClientCall) (s : List ℕ) (own : Bool) (slot : Slot) (reply : List ℕ) where
   pub send-quiet : replyAfter reply (send call s own slot) ≡ reply

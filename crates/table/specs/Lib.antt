@@ -1,3 +1,4 @@
 pub mod HeldPorts
+pub mod Inner
 pub mod Search
 pub mod Table

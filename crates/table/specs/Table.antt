@@ -16,10 +16,6 @@ use Rattle.table.specs.declared.Allocation.{Allocation}
 use Rattle.table.specs.declared.Slot.{Slot}
 use Rattle.table.specs.declared.Found.{Found}
 use Rattle.table.specs.declared.Placed.{Placed}
-use Rattle.table.specs.declared.permissions.PermissionWanted.{PermissionWanted}
-use Rattle.table.specs.declared.permissions.PermissionWanted.the-variants.{For, Free}
-use Rattle.table.specs.declared.channels.ChannelWanted.{ChannelWanted}
-use Rattle.table.specs.declared.channels.ChannelWanted.the-variants.{Number, To, Free}
 use Rattle.table.specs.Search.{has, find, entry, place, atOr}
 
 -- 'A thing is live at time t when t < its expiry.'
@@ -88,11 +84,6 @@ permits time address permission = both (livePermission time permission) (sameAdd
 unfoldable pub freePermission : ℕ → Permission → Bool
 freePermission time permission = not (livePermission time permission)
 
--- what a search of the permissions asks of each
-abbrev pub permissionMeets : ℕ → PermissionWanted → Permission → Bool
-permissionMeets time (For address) = permits time address
-permissionMeets time Free = freePermission time
-
 unfoldable pub permissionEntry : ℕ → Address → List Permission → Found
 permissionEntry time address permissions = entry (permits time address) (freePermission time) permissions
 
@@ -128,12 +119,6 @@ peerTaken time number peer channels =
 -- 'Both entries are chosen as a permission's is above'
 unfoldable pub freeChannel : ℕ → Channel → Bool
 freeChannel time channel = not (liveChannel time channel)
-
--- what a search of the channels asks of each
-abbrev pub channelMeets : ℕ → ChannelWanted → Channel → Bool
-channelMeets time (Number number) = numbered time number
-channelMeets time (To peer) = leadsTo time peer
-channelMeets time Free = freeChannel time
 
 unfoldable pub channelEntry : ℕ → ℕ → List Channel → Found
 channelEntry time number channels = entry (numbered time number) (freeChannel time) channels

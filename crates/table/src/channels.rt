@@ -14,7 +14,8 @@ use choice::both;
 ghost use mathlib.Core.Path.{_≡_};
 ghost use Prim.Native.Nat.{_≤_, _^_};
 ghost use Rattle.table.specs.Search.{find, place, atOr};
-ghost use Rattle.table.specs.Table.{freshChannel, isChannelNumber, liveChannel, numbered, leadsTo, channelMeets};
+ghost use Rattle.table.specs.Table.{freshChannel, isChannelNumber, liveChannel, numbered, leadsTo};
+ghost use Rattle.table.specs.Inner.{channelMeets};
 ghost use Rattle.table.specs.Table.{numberTaken, peerTaken, channelEntry, bind};
 
 // What a search of the channels looks for: one that is live with a number, one that is live for a peer, or one that isn't live.

@@ -13,7 +13,8 @@ use choice::both;
 ghost use mathlib.Core.Path.{_≡_};
 ghost use Prim.Native.Nat.{_≤_, _^_};
 ghost use Rattle.table.specs.Search.{find, place};
-ghost use Rattle.table.specs.Table.{freshPermission, livePermission, permits, permissionMeets, permissionEntry, permit};
+ghost use Rattle.table.specs.Table.{freshPermission, livePermission, permits, permissionEntry, permit};
+ghost use Rattle.table.specs.Inner.{permissionMeets};
 
 // What a search of the permissions looks for: one that is live for an IP address, or one that isn't live.
 enum PermissionWanted {

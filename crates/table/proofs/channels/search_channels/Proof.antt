@@ -1,6 +1,7 @@
 use Prim.Native.Nat.{_-_}
 use native.Mathlib.Omega.{arith}
-use Rattle.table.specs.Table.{channelMeets, freshChannel}
+use Rattle.table.specs.Table.{freshChannel}
+use Rattle.table.specs.Inner.{channelMeets}
 use Rattle.table.proofs.Laws.{Passed, from-none, one-more, find-at, find-past}
 use borrow.Author.Needs.{needs}
 use Rattle.table.proofs.channels.search_channels.Statement.{statement}

@@ -1,6 +1,7 @@
 use Prim.Native.Nat.{_-_}
 use native.Mathlib.Omega.{arith}
-use Rattle.table.specs.Table.{permissionMeets, freshPermission}
+use Rattle.table.specs.Table.{freshPermission}
+use Rattle.table.specs.Inner.{permissionMeets}
 use Rattle.table.proofs.Laws.{Passed, from-none, one-more, find-at, find-past}
 use borrow.Author.Needs.{needs}
 use Rattle.table.proofs.permissions.search_permissions.Statement.{statement}
