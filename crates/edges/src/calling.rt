@@ -8,8 +8,7 @@ use crate::fields::number_u16;
 use crate::fields::number_u32;
 use crate::fields::peer;
 use crate::fields::stop;
-use crate::lent::sixty_five;
-use crate::lent::sixty_three;
+use crate::lent::not_sixty_four;
 use crate::printing::write;
 use crate::printing::write_byte;
 use crate::printing::write_number;
@@ -109,22 +108,6 @@ fn write_case<'a>(line: &[u8], after: Held, datagram: &'a [u8], reply: &'a [u8])
     write_byte(b'\n');
 }
 
-// The entry over a fresh table that has not 64 slots.
-fn over_others(
-    kept: Bookkeeping,
-    slots: usize,
-    call: Call,
-    datagram: &[u8],
-    reply: &mut [u8],
-) -> Outcome {
-    if slots == 63 {
-        let table = [fresh_slot(); 63];
-        return sixty_three(table, kept, call, datagram, reply);
-    }
-    let table = [fresh_slot(); 65];
-    sixty_five(table, kept, call, datagram, reply)
-}
-
 // The entry over the table, or where the setting says 63 or 65 slots, over a fresh one of so many.
 fn answered(held: Held, slots: usize, call: Call, datagram: &[u8], reply: &mut [u8]) -> Held {
     let table = held.slots;
@@ -132,7 +115,14 @@ fn answered(held: Held, slots: usize, call: Call, datagram: &[u8], reply: &mut [
     if slots == 64 {
         return held_datagram(table, bookkeeping, call, datagram, reply);
     }
-    let outcome = over_others(bookkeeping, slots, call, datagram, reply);
+    let outcome = not_sixty_four(
+        slots == 65,
+        fresh_slot(),
+        bookkeeping,
+        call,
+        datagram,
+        reply,
+    );
     Held {
         slots: table,
         bookkeeping,
