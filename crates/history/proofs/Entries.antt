@@ -1,8 +1,8 @@
 -- What an accepted permission or channel does to the entries of a slot.
 use Prim.Native.Nat.{ℕ, zero, suc, _+_, _<_, _≤_, zero-le}
-use mathlib.Core.Path.{_≡_, refl, sym, _∙_, ap}
+use mathlib.Core.Path.{_≡_, refl, sym, _∙_}
 use mathlib.Core.Logic.{_≢_, _⊎_, inl, inr}
-use mathlib.Core.Bool.{Bool, true, false, not, true≢false, false≢true}
+use mathlib.Core.Bool.{Bool, true, false, not, false≢true}
 use mathlib.Core.List.{List, [], _∷_, List·Memᴰ, List·Memᴰ·head, List·Memᴰ·tail, List·Memᴰ·not-nil}
 use native.Mathlib.Omega.{arith}
 use native.Mathlib.Nat.{le-refl, not-suc-le-zero}
@@ -27,7 +27,7 @@ use Rattle.history.specs.Events.{addressesOf}
 use Rattle.history.specs.Statement.{permissionAt, channelAt, LiveChannel}
 use Rattle.history.proofs.Table.{HasPermission, NeatPermissions, NeatChannels, Neat}
 use Rattle.history.proofs.Keep.{nat?}
-use Rattle.history.proofs.Tests.{find-some, entry-is, has-at, has-not, permission-is, permission-free, none-permission, numbered-is, leads-is, none-numbered, none-leads}
+use Rattle.history.proofs.Tests.{find-some, entry-is, permission-is, permission-free, none-permission, numbered-is, leads-is, none-numbered, none-leads}
 
 abbrev newPermission : ℕ → Address → Permission
 newPermission t a = record { address = a; expiry = t + 300 }

@@ -3,6 +3,7 @@ pub mod Table
 pub mod Keep
 pub mod Tests
 pub mod Entries
+pub mod Asking
 pub mod Replies
 pub mod FreePort
 pub mod Made

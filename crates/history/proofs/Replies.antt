@@ -1,5 +1,5 @@
 -- What a reply counts as, read off its bytes by the clients' reader.
-use Prim.Native.Nat.{ℕ, _≤_, _<_, _^_, _/_}
+use Prim.Native.Nat.{ℕ, _+_, _≤_, _<_, _^_, _/_}
 use mathlib.Core.Path.{_≡_, refl, ap, _∙_}
 use mathlib.Core.Bool.{Bool, true, false, not}
 use mathlib.Core.List.{List, _∷_, [], _++_}
@@ -29,7 +29,7 @@ use Rattle.client_reader.specs.Reader.{plain, countFits, allBelow, typesOf, unk
 use Rattle.client_reader.proofs.Laws.{read-allocate, read-refresh, read-bare}
 use Rattle.client_reader.proofs.Around.{num-lt}
 use Rattle.history.specs.Counted.{Counted, gave, kept, allowed, nothing}
-use Rattle.history.specs.Events.{addressesOf, countsAs, countsBy}
+use Rattle.history.specs.Events.{TransportFits, addressesOf, asks, countsAs, countsBy}
 
 -- ---- Errors count as nothing
 pub record Silent (r : ReadMessage) : Type 0 where
@@ -137,17 +137,25 @@ module _ (call : FromClient) (s reply : List ℕ) (h : Bytes s) where
   abbrev Counts : List ℕ → Counted
   Counts message = countsBy (Client call) s (outcomeOf (toClient (call .«five_tuple») message)) (replyAfter reply (toClient (call .«five_tuple») message))
 
-  pub allocate-counts : (port seconds : ℕ) → call .relay < 2 ^ 32 → port < 2 ^ 16 → seconds < 2 ^ 32 → AddressFits (call .«five_tuple» .client .address)
-      → call .«five_tuple» .client .port < 2 ^ 16
+  -- where the datagram is a request of the method
+  counts-asked : (message : List ℕ) {r : ReadMessage} (method : Method) (c : Counted) → readOf message ≡ r
+      → countsAs call s (r .message) ≡ pick (asks method s) c nothing → asks method s ≡ true → Counts message ≡ c
+  counts-asked message method c e is asked = counts-sent message e ∙ is ∙ ap (λ (b : Bool). pick b c nothing) asked
+
+  pub allocate-counts : (port seconds : ℕ) → call .relay < 2 ^ 32 → port < 2 ^ 16 → seconds < 2 ^ 32 → TransportFits (call .«five_tuple» .client)
+      → asks Allocate s ≡ true
       → Counts (allocateSuccess (transactionId s) (call .relay) port seconds (call .«five_tuple» .client)) ≡ gave (call .«five_tuple») port (call .time) seconds
-  allocate-counts port seconds hr hp hs ha hq =
-      counts-sent _ (read-allocate (transactionId s) (id-fits s h) (call .relay) port seconds (call .«five_tuple» .client) hr hp hs ha hq)
+  allocate-counts port seconds hr hp hs hc =
+      counts-asked _ Allocate _ (read-allocate (transactionId s) (id-fits s h) (call .relay) port seconds (call .«five_tuple» .client) hr hp hs (hc .0) (hc .1)) refl
 
-  pub refresh-counts : (seconds : ℕ) → seconds < 2 ^ 32 → Counts (refreshSuccess (transactionId s) seconds) ≡ kept (call .«five_tuple») (call .time) seconds
-  refresh-counts seconds hs = counts-sent _ (read-refresh (transactionId s) (id-fits s h) seconds hs)
+  pub refresh-counts : (seconds : ℕ) → seconds < 2 ^ 32 → asks Refresh s ≡ true
+      → Counts (refreshSuccess (transactionId s) seconds) ≡ kept (call .«five_tuple») (call .time) seconds
+  refresh-counts seconds hs = counts-asked _ Refresh _ (read-refresh (transactionId s) (id-fits s h) seconds hs) refl
 
-  pub permission-counts : Counts (bareSuccess CreatePermission (transactionId s)) ≡ allowed (call .«five_tuple») (addressesOf (peers s)) (call .time)
-  permission-counts = counts-sent _ (read-bare (transactionId s) (id-fits s h) CreatePermission tt)
+  pub permission-counts : asks CreatePermission s ≡ true
+      → Counts (bareSuccess CreatePermission (transactionId s)) ≡ allowed (call .«five_tuple») (addressesOf (peers s)) (call .time + 300)
+  permission-counts = counts-asked _ CreatePermission _ (read-bare (transactionId s) (id-fits s h) CreatePermission tt) refl
 
-  pub channel-counts : Counts (bareSuccess ChannelBind (transactionId s)) ≡ allowed (call .«five_tuple») (firstPeer s .peer .address ∷ []) (call .time)
-  channel-counts = counts-sent _ (read-bare (transactionId s) (id-fits s h) ChannelBind tt)
+  pub channel-counts : asks ChannelBind s ≡ true
+      → Counts (bareSuccess ChannelBind (transactionId s)) ≡ allowed (call .«five_tuple») (firstPeer s .peer .address ∷ []) (call .time + 300)
+  channel-counts = counts-asked _ ChannelBind _ (read-bare (transactionId s) (id-fits s h) ChannelBind tt) refl

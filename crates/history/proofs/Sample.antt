@@ -1,5 +1,5 @@
 -- The sample of document 01's 'Listing and the call program', computed through the definitions: 'permission made at 1010 carries at 1309 and not at 1310'.
-use Prim.Native.Nat.{ℕ}
+use Prim.Native.Nat.{ℕ, _<_, _^_}
 use mathlib.Core.Path.{_≡_, refl}
 use mathlib.Core.List.{List, [], _∷_}
 use lib.Dec.{lit<}
@@ -69,7 +69,7 @@ allocating = record {
   call = clientDatagram 1000 3 5 0xcb00_7105 caller;
   datagram = allocateBytes;
   reply = room;
-  call-fits = (lit< tt, (lit< tt, lit< tt));
+  call-fits = (lit< tt, (lit< tt, lit< tt), (lit< tt, lit< tt), lit< tt, lit< tt, lit< tt, lit< tt);
   bytes = allocate-bytes;
 }
 
@@ -78,17 +78,17 @@ permitting = record {
   call = clientDatagram 1010 3 0 0xcb00_7105 caller;
   datagram = permissionBytes;
   reply = room;
-  call-fits = (lit< tt, (lit< tt, lit< tt));
+  call-fits = (lit< tt, (lit< tt, lit< tt), (lit< tt, lit< tt), lit< tt, lit< tt, lit< tt, lit< tt);
   bytes = permission-bytes;
 }
 
 -- 'the twelve bytes are zero'
-abbrev coming : ℕ → Arrival
-coming time = record {
+abbrev coming : (time : ℕ) → time < 2 ^ 64 → Arrival
+coming time fits = record {
   call = peerDatagram time (from 0xc000_0296 5000) 49157 (record { high = 0; middle = 0; low = 0 });
   datagram = dataBytes;
   reply = room;
-  call-fits = ((lit< tt, lit< tt), (lit< tt, lit< tt, lit< tt));
+  call-fits = ((lit< tt, lit< tt), (lit< tt, lit< tt, lit< tt), lit< tt, fits);
   bytes = data-bytes;
 }
 
@@ -103,9 +103,9 @@ pub record Sends (st : State) (a : Arrival) (message : List ℕ) : Type 0 where
 pub record Sample : Type 0 where
   pub allocate-line : Sends empty allocating (0x01 ∷ 0x03 ∷ 0x00 ∷ 0x20 ∷ 0x21 ∷ 0x12 ∷ 0xa4 ∷ 0x42 ∷ 0x00 ∷ 0x01 ∷ 0x02 ∷ 0x03 ∷ 0x04 ∷ 0x05 ∷ 0x06 ∷ 0x07 ∷ 0x08 ∷ 0x09 ∷ 0x0a ∷ 0x0b ∷ 0x00 ∷ 0x16 ∷ 0x00 ∷ 0x08 ∷ 0x00 ∷ 0x01 ∷ 0xe1 ∷ 0x17 ∷ 0xea ∷ 0x12 ∷ 0xd5 ∷ 0x47 ∷ 0x00 ∷ 0x0d ∷ 0x00 ∷ 0x04 ∷ 0x00 ∷ 0x00 ∷ 0x02 ∷ 0x58 ∷ 0x00 ∷ 0x20 ∷ 0x00 ∷ 0x08 ∷ 0x00 ∷ 0x01 ∷ 0xbd ∷ 0x52 ∷ 0xe7 ∷ 0x21 ∷ 0xc0 ∷ 0x45 ∷ [])
   pub permission-line : Sends (run empty (allocating ∷ [])) permitting (0x01 ∷ 0x08 ∷ 0x00 ∷ 0x00 ∷ 0x21 ∷ 0x12 ∷ 0xa4 ∷ 0x42 ∷ 0x10 ∷ 0x11 ∷ 0x12 ∷ 0x13 ∷ 0x14 ∷ 0x15 ∷ 0x16 ∷ 0x17 ∷ 0x18 ∷ 0x19 ∷ 0x1a ∷ 0x1b ∷ [])
-  pub carried-line : Sends (run empty (allocating ∷ permitting ∷ [])) (coming 1309) (0x00 ∷ 0x17 ∷ 0x00 ∷ 0x14 ∷ 0x21 ∷ 0x12 ∷ 0xa4 ∷ 0x42 ∷ 0x00 ∷ 0x00 ∷ 0x00 ∷ 0x00 ∷ 0x00 ∷ 0x00 ∷ 0x00 ∷ 0x00 ∷ 0x00 ∷ 0x00 ∷ 0x00 ∷ 0x00 ∷ 0x00 ∷ 0x12 ∷ 0x00 ∷ 0x08 ∷ 0x00 ∷ 0x01 ∷ 0x32 ∷ 0x9a ∷ 0xe1 ∷ 0x12 ∷ 0xa6 ∷ 0xd4 ∷ 0x00 ∷ 0x13 ∷ 0x00 ∷ 0x02 ∷ 0x68 ∷ 0x69 ∷ 0x00 ∷ 0x00 ∷ [])
-  pub dropped-line : outcome (run empty (allocating ∷ permitting ∷ coming 1309 ∷ [])) (coming 1310) ≡ Dropped
-  pub listed : slotAt (run empty (allocating ∷ permitting ∷ coming 1309 ∷ coming 1310 ∷ []) .slots) 0 .allocation
+  pub carried-line : Sends (run empty (allocating ∷ permitting ∷ [])) (coming 1309 (lit< tt)) (0x00 ∷ 0x17 ∷ 0x00 ∷ 0x14 ∷ 0x21 ∷ 0x12 ∷ 0xa4 ∷ 0x42 ∷ 0x00 ∷ 0x00 ∷ 0x00 ∷ 0x00 ∷ 0x00 ∷ 0x00 ∷ 0x00 ∷ 0x00 ∷ 0x00 ∷ 0x00 ∷ 0x00 ∷ 0x00 ∷ 0x00 ∷ 0x12 ∷ 0x00 ∷ 0x08 ∷ 0x00 ∷ 0x01 ∷ 0x32 ∷ 0x9a ∷ 0xe1 ∷ 0x12 ∷ 0xa6 ∷ 0xd4 ∷ 0x00 ∷ 0x13 ∷ 0x00 ∷ 0x02 ∷ 0x68 ∷ 0x69 ∷ 0x00 ∷ 0x00 ∷ [])
+  pub dropped-line : outcome (run empty (allocating ∷ permitting ∷ coming 1309 (lit< tt) ∷ [])) (coming 1310 (lit< tt)) ≡ Dropped
+  pub listed : slotAt (run empty (allocating ∷ permitting ∷ coming 1309 (lit< tt) ∷ coming 1310 (lit< tt) ∷ []) .slots) 0 .allocation
       ≡ record { user = 3; «five_tuple» = caller; port = 49157; expiry = 1600 }
 
 pub sample : Sample

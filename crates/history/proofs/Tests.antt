@@ -5,9 +5,9 @@ use mathlib.Core.Logic.{_≢_, _⊎_, inl, inr}
 use mathlib.Core.Bool.{Bool, true, false, not, true≢false, false≢true}
 use mathlib.Core.List.{List, [], _∷_}
 use native.Mathlib.Omega.{arith}
-use lib.Dec.{eqb, ltb, leb}
+use lib.Dec.{ltb}
 use lib.ListN.{length, getD}
-use borrow.Author.Tests.{ltb-true, ltb-false, leb-true, eqb-true, eqb-false, le-ltb, lt-ltb, eq-eqb, le-leb, not-true, not-false}
+use borrow.Author.Tests.{ltb-true, ltb-false, leb-true, eqb-true, eqb-false, le-ltb, lt-ltb, le-leb, not-true}
 use Rattle.choice.specs.Choice.{pick, both}
 use Rattle.choice.proofs.Laws.{both-parts, both-true}
 use Rattle.address.specs.declared.Address.{Address}
@@ -21,7 +21,7 @@ use Rattle.table.specs.declared.Slot.{Slot}
 use Rattle.table.specs.declared.Found.{Found}
 use Rattle.table.specs.declared.Found.the-variants.{At, Nothing}
 use Rattle.table.specs.Search.{further, find, has, orElse, entry}
-use Rattle.table.specs.Table.{liveAllocation, freshAllocation, freshPermission, freshChannel, freshSlot, livePermission, freePermission, permits, isChannelNumber, liveChannel, freeChannel, numbered, leadsTo, holds, holdsPort}
+use Rattle.table.specs.Table.{liveAllocation, freshPermission, freshChannel, freshSlot, livePermission, freePermission, permits, isChannelNumber, liveChannel, numbered, leadsTo, holds, holdsPort}
 use Rattle.slots.specs.Slots.{slotAt, inSlot, lapsed}
 use Rattle.history.specs.Statement.{permissionAt, channelAt, Live, LiveChannel}
 use Rattle.history.proofs.Table.{HasPermission}
