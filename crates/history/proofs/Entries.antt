@@ -283,12 +283,12 @@ bound-is t n p was taken ok ok′ =
         neat ne = rw (x .channels-are) (bind-neat t n p (was .channels) m taken (rw (x .channels-are) at e) ne)
 
 -- ---- A fresh slot
-fresh-permissions : (n j : ℕ) → permissionAt (replicate n freshPermission) j ≡ freshPermission
+pub fresh-permissions : (n j : ℕ) → permissionAt (replicate n freshPermission) j ≡ freshPermission
 fresh-permissions zero j = refl
 fresh-permissions (suc n) zero = refl
 fresh-permissions (suc n) (suc j) = fresh-permissions n j
 
-fresh-channels : (n j : ℕ) → channelAt (replicate n freshChannel) j ≡ freshChannel
+pub fresh-channels : (n j : ℕ) → channelAt (replicate n freshChannel) j ≡ freshChannel
 fresh-channels zero j = refl
 fresh-channels (suc n) zero = refl
 fresh-channels (suc n) (suc j) = fresh-channels n j

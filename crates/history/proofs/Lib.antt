@@ -11,6 +11,7 @@ pub mod Whole
 pub mod Demand
 pub mod Codes
 pub mod ReadBack
+pub mod Fits
 pub mod Own
 pub mod Corollaries
 pub mod Sample

@@ -51,7 +51,7 @@ abbrev pub AccountsFor : List Counted → State → Type 0
 AccountsFor past st = Accounts (clockOf st) (slotAt (st .slots)) past
 
 -- ---- The empty relay
-fresh-slots : (n i : ℕ) → slotAt (replicate n freshSlot) i ≡ freshSlot
+pub fresh-slots : (n i : ℕ) → slotAt (replicate n freshSlot) i ≡ freshSlot
 fresh-slots zero i = refl
 fresh-slots (suc n) zero = refl
 fresh-slots (suc n) (suc i) = fresh-slots n i
