@@ -1,17 +1,19 @@
 -- What demand 3 says in particular.
 use Prim.Native.Nat.{ℕ, _≤_}
-use mathlib.Core.Path.{_≡_, refl, sym}
+use mathlib.Core.Path.{_≡_, refl, sym, _∙_}
 use mathlib.Core.Logic.{_↔_}
 use mathlib.Core.List.{List, [], _∷_, _++_, List·Memᴰ, List·Memᴰ·head, List·Memᴰ·tail, Memᴰ·append-left}
 use native.Mathlib.Omega.{arith}
 use Rattle.address.specs.declared.Address.{Address}
-use Rattle.address.specs.declared.Address.the-variants.{V4}
+use Rattle.address.specs.declared.Address.the-variants.{V4, V6}
 use Rattle.address.specs.declared.FiveTuple.{FiveTuple}
 use Rattle.rules.specs.declared.answer.Outcome.the-variants.{Dropped}
 use Rattle.relay.specs.State.{State}
 use Rattle.history.specs.Counted.{Counted, allowed}
-use Rattle.history.specs.Events.{Event, counts, counted}
+use Rattle.history.specs.Events.{Event, Lived, counts, counted}
 use Rattle.history.specs.Statement.{GoesTo, Comes, To, Demand3From}
+use Rattle.history.proofs.Whole.{ipv6-dropped}
+use Rattle.history.proofs.Demand.{lived-middle}
 use Rattle.history.proofs.Own.{about, goes-alike}
 
 -- every request of C for address a that was counted has ended at t
@@ -66,3 +68,11 @@ own-history demand demand′ before before′ e e′ R x t c c′ C same =
     let there = demand .goes-to before e R x t c C in
     let here = demand′ .goes-to before′ e′ R x t c′ C in
     (λ sent. here .1 (goes-alike C R _ _ same (there .0 sent)), λ sent. there .1 (goes-alike C R _ _ (sym same) (here .0 sent)))
+
+-- an IPv6 peer's datagram goes to nobody
+pub ipv6-to-nobody : (first last : State) (list before : List Event) (e : Event) (R p q r w t : ℕ) → Lived first list last
+    → Comes list before e R (V6 p q r w) t → e .outcome ≡ Dropped
+ipv6-to-nobody first last list before e R p q r w t lived c =
+    let m = lived-middle before (e ∷ c .after) first last (rw (c .split) at lived) in
+    let same = m .2 .1 .outcome-is in
+    same ∙ ipv6-dropped (m .0) (e .arrival) R p q r w t (c .from) (rw same at (c .not-refused))

@@ -10,7 +10,7 @@ use Rattle.history.proofs.Whole.{AccountsFor, accounts-empty, lived-acc
 -- ---- Lists of calls
 
 -- the state in the middle of a list
-lived-middle : (before rest : List Event) (first last : State) → Lived first (before ++ rest) last → (st : State) × Lived first before st × Lived st rest last
+pub lived-middle : (before rest : List Event) (first last : State) → Lived first (before ++ rest) last → (st : State) × Lived first before st × Lived st rest last
 lived-middle [] rest first last l = (first, refl, l)
 lived-middle (e ∷ before) rest first last l = let m = lived-middle before rest (l .0) last (l .2) in (m .0, (l .0, l .1, m .1), m .2)
 

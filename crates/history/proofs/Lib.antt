@@ -15,3 +15,4 @@ pub mod Fits
 pub mod Own
 pub mod Corollaries
 pub mod Sample
+pub mod Witnesses

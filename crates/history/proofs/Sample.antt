@@ -33,23 +33,23 @@ use Rattle.history.specs.Events.{Arrival, outcome, replied, run}
 
 -- ---- The calls
 
-abbrev from : ℕ → ℕ → Peer
+abbrev pub from : ℕ → ℕ → Peer
 from address port = record { address = V4 address; port = port }
 
 -- 'Server and relay are 203.0.113.5:3478'
-abbrev caller : FiveTuple
+abbrev pub caller : FiveTuple
 caller = record { client = from 0xc633_6407 40000; server = from 0xcb00_7105 3478; protocol = 17 }
 
-abbrev room : List ℕ
+abbrev pub room : List ℕ
 room = replicate 1536 0
 
-abbrev allocateBytes : List ℕ
+abbrev pub allocateBytes : List ℕ
 allocateBytes = 0x00 ∷ 0x03 ∷ 0x00 ∷ 0x08 ∷ 0x21 ∷ 0x12 ∷ 0xa4 ∷ 0x42 ∷ 0x00 ∷ 0x01 ∷ 0x02 ∷ 0x03 ∷ 0x04 ∷ 0x05 ∷ 0x06 ∷ 0x07 ∷ 0x08 ∷ 0x09 ∷ 0x0a ∷ 0x0b ∷ 0x00 ∷ 0x19 ∷ 0x00 ∷ 0x04 ∷ 0x11 ∷ 0x00 ∷ 0x00 ∷ 0x00 ∷ []
 
-abbrev permissionBytes : List ℕ
+abbrev pub permissionBytes : List ℕ
 permissionBytes = 0x00 ∷ 0x08 ∷ 0x00 ∷ 0x0c ∷ 0x21 ∷ 0x12 ∷ 0xa4 ∷ 0x42 ∷ 0x10 ∷ 0x11 ∷ 0x12 ∷ 0x13 ∷ 0x14 ∷ 0x15 ∷ 0x16 ∷ 0x17 ∷ 0x18 ∷ 0x19 ∷ 0x1a ∷ 0x1b ∷ 0x00 ∷ 0x12 ∷ 0x00 ∷ 0x08 ∷ 0x00 ∷ 0x01 ∷ 0x21 ∷ 0x12 ∷ 0xe1 ∷ 0x12 ∷ 0xa6 ∷ 0xd4 ∷ []
 
-abbrev dataBytes : List ℕ
+abbrev pub dataBytes : List ℕ
 dataBytes = 0x68 ∷ 0x69 ∷ []
 
 pub allocate-bytes : Bytes allocateBytes
@@ -64,7 +64,7 @@ pub data-bytes : Bytes dataBytes
 unfolding allBelow both
 data-bytes = all-below 256 dataBytes (lit< tt) refl
 
-abbrev allocating : Arrival
+abbrev pub allocating : Arrival
 allocating = record {
   call = clientDatagram 1000 3 5 0xcb00_7105 caller;
   datagram = allocateBytes;
@@ -83,7 +83,7 @@ permitting = record {
 }
 
 -- 'the twelve bytes are zero'
-abbrev coming : (time : ℕ) → time < 2 ^ 64 → Arrival
+abbrev pub coming : (time : ℕ) → time < 2 ^ 64 → Arrival
 coming time fits = record {
   call = peerDatagram time (from 0xc000_0296 5000) 49157 (record { high = 0; middle = 0; low = 0 });
   datagram = dataBytes;

@@ -11,8 +11,9 @@ use lib.ListN.{length, replicate}
 use borrow.Author.Tests.{eqb-true}
 use Rattle.choice.specs.Choice.{pick}
 use Rattle.address.specs.declared.Address.{Address}
-use Rattle.address.specs.declared.Address.the-variants.{V4}
+use Rattle.address.specs.declared.Address.the-variants.{V4, V6}
 use Rattle.address.specs.declared.FiveTuple.{FiveTuple}
+use Rattle.address.specs.declared.Peer.{Peer as Transport}
 use Rattle.address.specs.declared.TransactionId.{TransactionId}
 use Rattle.table.specs.declared.Slot.{Slot}
 use Rattle.table.specs.declared.Found.{Found}
@@ -25,6 +26,7 @@ use Rattle.rules.specs.declared.answer.Outcome.the-variants.{Refused, Dropped, 
 use Rattle.rules.specs.Act as rules
 use Rattle.rules.specs.Act.{Out, dropped, toClient, Change, keep, write}
 use Rattle.rules.specs.declared.client.Asked.{Asked}
+use Rattle.rules.specs.Values.{isIpv6}
 use Rattle.rules.specs.Data.{permitted, relayed, fromPeer}
 use Rattle.rules.specs.Client.{askedBy}
 use Rattle.relay.specs.declared.incoming.Call.{Call}
@@ -262,3 +264,28 @@ module _ (st : State) (past : List Counted) (I : AccountsFor past st) (a : Arriv
       go : clockOf st ≤ t → Verdict (st .slots) t R (V4 x) (outcome st a) → outcome st a ≡ Dropped
       go le (reaches C n e r) = absurd (none C (says C le .0 r))
       go le (to-none e f) = e
+
+-- ---- 'IPv6 ..: dropped'
+ipv6-out : (t : ℕ) (source : Transport) (id : TransactionId) (s : List ℕ) (own : Bool) (slot : Slot) → isIpv6 (source .address) ≡ true
+    → rules.outcomeOf (fromPeer t source id s own slot) ≡ Dropped
+unfolding fromPeer
+ipv6-out t source id s true slot e = rw e
+ipv6-out t source id s false slot e = refl
+
+pub ipv6-dropped : (st : State) (a : Arrival) (R p q r w t : ℕ) → FromAddress a R (V6 p q r w) t → ((number : ℕ) → outcome st a ≢ Refused number) → outcome st a ≡ Dropped
+unfolding act peer-out
+ipv6-dropped st a R p q r w t from nr = rw (from .2) (go (eqb number 0) (rw (from .2) at nr))
+  where
+    call : FromPeer
+    call = record { time = t; source = record { address = V6 p q r w; port = from .0 }; port = R; id = from .1 }
+
+    number : ℕ
+    number = refusal (clockOf st) (lengths (length (st .slots)) (length (a .datagram)) (length (a .reply))) (Peer call)
+
+    found : Found
+    found = find (inSlot (holdsPort t R)) (st .slots)
+
+    go : (b : Bool) → ((n : ℕ) → outcomeOf (pick b (accepted st (Peer call) (a .datagram)) (refuse number)) ≢ Refused n)
+        → outcomeOf (pick b (accepted st (Peer call) (a .datagram)) (refuse number)) ≡ Dropped
+    go true nr = rw (peer-stays call st (a .datagram)) (ipv6-out t (call .source) (from .1) (a .datagram) (has found) (atOr freshSlot found (st .slots)) refl)
+    go false nr = absurd (nr number refl)
