@@ -14,5 +14,6 @@ pub mod ReadBack
 pub mod Fits
 pub mod Own
 pub mod Corollaries
+pub mod Lines
 pub mod Sample
 pub mod Witnesses

@@ -2,3 +2,4 @@ pub mod Counted
 pub mod Events
 pub mod Statement
 pub mod Fits
+pub mod Lines
