@@ -71,7 +71,7 @@ module _ (now : ℕ) (v w : View) (h : List Counted) (I : Accounts now v h) wher
       neat = by-slot now (c .k) v w (c .frame) (λ i. Tidy now (w i)) (c .neat) (λ i ne p x. rw p (I .neat i x));
       given = by-slot now (c .k) v w (c .frame) (λ i. Given (gave C R now n ∷ h) (w i .allocation .«five_tuple») (w i .allocation .port)) (inl (c .who, c .port)) (λ i ne p x. rw p (inr (c .new-who i x, c .new-port i x, I .given i x)));
       granted→ = by-slot now (c .k) v w (c .frame) (λ i. (t : ℕ) → now ≤ t → t < w i .allocation .expiry → Granted (gave C R now n ∷ h) (w i .allocation .«five_tuple») t)
-          (λ t le y. inl (c .who, c .some-time, rw (c .until) at y))
+          (λ t le y. inl (c .who, record { not-zero = c .some-time; not-over = rw (c .until) at y }))
           (λ i ne p x t le y. rw p (inr (c .new-who i x, I .granted→ i x t le (rw p at y))));
       granted← = back;
       allowed→ = by-slot now (c .k) v w (c .frame) (λ i. (a : Address) (t : ℕ) → now ≤ t → HasPermission t a (w i .permissions) → Allowed (gave C R now n ∷ h) (w i .allocation .«five_tuple») a t)
@@ -83,7 +83,7 @@ module _ (now : ℕ) (v w : View) (h : List Counted) (I : Accounts now v h) wher
     }
       where
         back : (D : FiveTuple) (t : ℕ) → now ≤ t → Granted (gave C R now n ∷ h) D t → (i : ℕ) × (w i .allocation .«five_tuple» ≡ D) × (t < w i .allocation .expiry)
-        back D t le (inl g) = (c .k, c .who ∙ sym (g .0), rw (c .until) (g .2))
+        back D t le (inl g) = (c .k, c .who ∙ sym (g .0), rw (c .until) (g .1 .not-over))
         back D t le (inr g) =
             let s = I .granted← D t le (g .1) in
             let i : ℕ = s .0 in
@@ -110,7 +110,7 @@ module _ (now : ℕ) (v w : View) (h : List Counted) (I : Accounts now v h) wher
     neat = by-slot now (c .k) v w (c .frame) (λ i. Tidy now (w i)) (rw (c .perms, c .chans) (I .neat (c .k) (c .live))) (λ i ne p x. rw p (I .neat i x));
     given = by-slot now (c .k) v w (c .frame) (λ i. Given h (w i .allocation .«five_tuple») (w i .allocation .port)) (rw (c .who, c .port) (I .given (c .k) (c .live))) (λ i ne p x. rw p (I .given i x));
     granted→ = by-slot now (c .k) v w (c .frame) (λ i. (t : ℕ) → now ≤ t → t < w i .allocation .expiry → Granted (kept C now n ∷ h) (w i .allocation .«five_tuple») t)
-        (λ t le y. inl (c .who ∙ c .mine, c .some-time, rw (c .until) at y))
+        (λ t le y. inl (c .who ∙ c .mine, record { not-zero = c .some-time; not-over = rw (c .until) at y }))
         (λ i ne p x t le y. rw p (inr (other (c .k) (c .frame) (c .live) (c .who) i ne x C (c .mine), I .granted→ i x t le (rw p at y))));
     granted← = back;
     allowed→ = by-slot now (c .k) v w (c .frame) (λ i. (a : Address) (t : ℕ) → now ≤ t → HasPermission t a (w i .permissions) → Allowed h (w i .allocation .«five_tuple») a t)
@@ -122,7 +122,7 @@ module _ (now : ℕ) (v w : View) (h : List Counted) (I : Accounts now v h) wher
   }
     where
       back : (D : FiveTuple) (t : ℕ) → now ≤ t → Granted (kept C now n ∷ h) D t → (i : ℕ) × (w i .allocation .«five_tuple» ≡ D) × (t < w i .allocation .expiry)
-      back D t le (inl g) = (c .k, c .who ∙ c .mine ∙ sym (g .0), rw (c .until) (g .2))
+      back D t le (inl g) = (c .k, c .who ∙ c .mine ∙ sym (g .0), rw (c .until) (g .1 .not-over))
       back D t le (inr g) =
           let s = I .granted← D t le (g .1) in
           let i : ℕ = s .0 in
@@ -153,7 +153,7 @@ module _ (now : ℕ) (v w : View) (h : List Counted) (I : Accounts now v h) wher
       ne i d x e = d (I .own i (c .k) x (c .live) (e ∙ sym (c .mine)))
 
       back : (D : FiveTuple) (t : ℕ) → now ≤ t → Granted (kept C now n ∷ h) D t → (i : ℕ) × (w i .allocation .«five_tuple» ≡ D) × (t < w i .allocation .expiry)
-      back D t le (inl g) = absurd (g .1 (c .no-time))
+      back D t le (inl g) = absurd (g .1 .not-zero (c .no-time))
       back D t le (inr g) =
           let s = I .granted← D t le (g .1) in
           let i : ℕ = s .0 in

@@ -13,7 +13,7 @@ use Rattle.address.specs.declared.FiveTuple.{FiveTuple}
 use Rattle.address.specs.Address.{sameFiveTuple}
 use Rattle.address.proofs.Laws.{five-tuple-refl}
 use Rattle.history.specs.Counted.{Counted, gave, kept, allowed, nothing}
-use Rattle.history.specs.Statement.{FromAllocate, FromRefresh, GoesTo}
+use Rattle.history.specs.Statement.{Lasts, FromAllocate, FromRefresh, GoesTo}
 use Rattle.history.proofs.Tests.{clash}
 
 -- ---- Those of a list that pass a test
@@ -108,7 +108,7 @@ module _ (C : FiveTuple) (R : ℕ) where
       allocate = ap about (g .allocate) ∙ only-split (concerns C R) (g .since) (g .before) _ (own-gift R (g .s) (g .n));
       latest = λ P s n m. g .latest P s n (only-out (concerns C R) (g .since) m);
       alone = λ D s n m. g .alone D s n (only-out (concerns C R) (g .since) m);
-      lifetime = lasts (g .lifetime);
+      lifetime = lifetime (g .lifetime);
       permission = record {
         addresses = g .permission .addresses;
         ends = g .permission .ends;
@@ -118,10 +118,10 @@ module _ (C : FiveTuple) (R : ℕ) where
       };
     }
       where
-        lasts : FromAllocate C t (g .s) (g .n) (g .since) ⊎ FromRefresh C t (g .since)
+        lifetime : FromAllocate C t (g .s) (g .n) (g .since) ⊎ FromRefresh C t (g .since)
             → FromAllocate C t (g .s) (g .n) (about (g .since)) ⊎ FromRefresh C t (about (g .since))
-        lasts (inl o) = inl (record { none-since = λ s n m. o .none-since s n (only-out (concerns C R) (g .since) m); not-zero = o .not-zero; not-over = o .not-over })
-        lasts (inr f) =
+        lifetime (inl o) = inl (record { none-since = λ s n m. o .none-since s n (only-out (concerns C R) (g .since) m); lasts = o .lasts })
+        lifetime (inr f) =
             inr
             (record {
               newer = about (f .newer);
@@ -130,23 +130,21 @@ module _ (C : FiveTuple) (R : ℕ) where
               n = f .n;
               refresh = ap about (f .refresh) ∙ only-split (concerns C R) (f .newer) (f .older) _ (five-tuple-refl C);
               last = λ s n m. f .last s n (only-out (concerns C R) (f .newer) m);
-              not-zero = f .not-zero;
-              not-over = f .not-over;
+              lasts = f .lasts;
             })
 
     of-own : (list : List Counted) → GoesTo (about list) C R a t → GoesTo list C R a t
     of-own list g = go (parted (concerns C R) list (g .since) (g .before) _ (g .allocate))
       where
-        lasts : (since : List Counted) → FromAllocate C t (g .s) (g .n) (about since) ⊎ FromRefresh C t (about since)
+        lifetime : (since : List Counted) → FromAllocate C t (g .s) (g .n) (about since) ⊎ FromRefresh C t (about since)
             → FromAllocate C t (g .s) (g .n) since ⊎ FromRefresh C t since
-        lasts since (inl o) =
+        lifetime since (inl o) =
             inl
             (record {
               none-since = λ s n m. o .none-since s n (only-in (concerns C R) since (five-tuple-refl C) m);
-              not-zero = o .not-zero;
-              not-over = o .not-over;
+              lasts = o .lasts;
             })
-        lasts since (inr f) =
+        lifetime since (inr f) =
             let w = parted (concerns C R) since (f .newer) (f .older) (kept C (f .s) (f .n)) (f .refresh) in
             inr
             (record {
@@ -156,8 +154,7 @@ module _ (C : FiveTuple) (R : ℕ) where
               n = f .n;
               refresh = w .whole;
               last = λ s n m. f .last s n (subst (List·Memᴰ (kept C s n)) (w .passed) (only-in (concerns C R) (w .front) (five-tuple-refl C) m));
-              not-zero = f .not-zero;
-              not-over = f .not-over;
+              lasts = f .lasts;
             })
 
         go : Parted (concerns C R) list (gave C R (g .s) (g .n)) (g .since) → GoesTo list C R a t
@@ -169,7 +166,7 @@ module _ (C : FiveTuple) (R : ℕ) where
           allocate = w .whole;
           latest = λ P s n m. g .latest P s n (subst (List·Memᴰ (gave C P s n)) (w .passed) (only-in (concerns C R) (w .front) (own-gift P s n) m));
           alone = λ D s n m. g .alone D s n (subst (List·Memᴰ (gave D R s n)) (w .passed) (only-in (concerns C R) (w .front) (gift-of D s n) m));
-          lifetime = lasts (w .front) (rw (← w .passed) at (g .lifetime));
+          lifetime = lifetime (w .front) (rw (← w .passed) at (g .lifetime));
           permission = record {
             addresses = g .permission .addresses;
             ends = g .permission .ends;

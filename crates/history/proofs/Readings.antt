@@ -13,7 +13,7 @@ use Rattle.address.specs.declared.FiveTuple.{FiveTuple}
 use Rattle.address.specs.Address.{sameFiveTuple}
 use Rattle.address.proofs.Laws.{five-tuple-same, five-tuple-refl}
 use Rattle.history.specs.Counted.{Counted, gave, kept, allowed, nothing, lasting, granted}
-use Rattle.history.specs.Statement.{FromAllocate, FromRefresh, Permitted, GoesTo}
+use Rattle.history.specs.Statement.{Lasts, FromAllocate, FromRefresh, Permitted, GoesTo}
 
 -- C holds R: its latest Allocate gave R, and nobody was given R after it
 abbrev pub Given : List Counted → FiveTuple → ℕ → Type 0
@@ -26,8 +26,8 @@ Given (nothing ∷ h) C R = Given h C R
 -- the last lifetime granted to C is not zero and not over at t
 abbrev pub Granted : List Counted → FiveTuple → ℕ → Type 0
 Granted [] C t = ⊥
-Granted (gave D P s n ∷ h) C t = ((C ≡ D) × (n ≢ 0) × (t < s + n)) ⊎ ((C ≢ D) × Granted h C t)
-Granted (kept D s n ∷ h) C t = ((C ≡ D) × (n ≢ 0) × (t < s + n)) ⊎ ((C ≢ D) × Granted h C t)
+Granted (gave D P s n ∷ h) C t = ((C ≡ D) × Lasts t s n) ⊎ ((C ≢ D) × Granted h C t)
+Granted (kept D s n ∷ h) C t = ((C ≡ D) × Lasts t s n) ⊎ ((C ≢ D) × Granted h C t)
 Granted (allowed D xs s ∷ h) C t = Granted h C t
 Granted (nothing ∷ h) C t = Granted h C t
 
@@ -79,11 +79,11 @@ given-split (allowed D xs s ∷ h) C R x = is-more (allowed D xs s) h C R (λ P�
 given-split (nothing ∷ h) C R x = is-more nothing h C R (λ P₁ s₁ n₁ e. let z : _≡_ {A = ℕ} 0 1 = cc in omega arith) (λ D₁ s₁ n₁ e. let z : _≡_ {A = ℕ} 0 1 = cc in omega arith) (given-split h C R x)
 
 once-tail : {C : FiveTuple} {t s n : ℕ} {d : Counted} {l : List Counted} → FromAllocate C t s n (d ∷ l) → FromAllocate C t s n l
-once-tail o = record { none-since = λ s n m. o .none-since s n (List·Memᴰ·tail m); not-zero = o .not-zero; not-over = o .not-over }
+once-tail o = record { none-since = λ s n m. o .none-since s n (List·Memᴰ·tail m); lasts = o .lasts }
 
 last-more : {C : FiveTuple} {t s n : ℕ} (d : Counted) {l : List Counted} → ((s n : ℕ) → kept C s n ≡ d → ⊥) → FromAllocate C t s n l ⊎ FromRefresh C t l → FromAllocate C t s n (d ∷ l) ⊎ FromRefresh C t (d ∷ l)
-last-more d f (inl o) = inl (record { none-since = λ s n. not-in (f s n) (o .none-since s n); not-zero = o .not-zero; not-over = o .not-over })
-last-more d f (inr g) = let e = g .refresh in inr (record { newer = d ∷ g .newer; older = g .older; s = g .s; n = g .n; refresh = cc; last = λ s n. not-in (f s n) (g .last s n); not-zero = g .not-zero; not-over = g .not-over })
+last-more d f (inl o) = inl (record { none-since = λ s n. not-in (f s n) (o .none-since s n); lasts = o .lasts })
+last-more d f (inr g) = let e = g .refresh in inr (record { newer = d ∷ g .newer; older = g .older; s = g .s; n = g .n; refresh = cc; last = λ s n. not-in (f s n) (g .last s n); lasts = g .lasts })
 
 permitted-more : {C : FiveTuple} {a : Address} {t : ℕ} {d : Counted} {l : List Counted} → Permitted C a t l → Permitted C a t (d ∷ l)
 permitted-more p = record { addresses = p .addresses; ends = p .ends; accepted = List·Memᴰ·tail (p .accepted); named = p .named; recent = p .recent }
@@ -98,18 +98,18 @@ module _ (C : FiveTuple) (R s n : ℕ) (before : List Counted) where
   given-join (nothing ∷ h) l a = given-join h (λ P s n m. l P s n (List·Memᴰ·tail m)) (λ D s n m. a D s n (List·Memᴰ·tail m))
 
   granted-once : (t : ℕ) (after : List Counted) → ((P s n : ℕ) → List·Memᴰ (gave C P s n) after → ⊥) → FromAllocate C t s n after → Granted (after ++ gave C R s n ∷ before) C t
-  granted-once t [] l o = inl (refl, o .not-zero, o .not-over)
+  granted-once t [] l o = inl (refl, o .lasts)
   granted-once t (gave D P s₁ n₁ ∷ h) l o = inr ((λ e. l P s₁ n₁ (List·Memᴰ·head (cc))), granted-once t h (λ P s n m. l P s n (List·Memᴰ·tail m)) (once-tail o))
   granted-once t (kept D s₁ n₁ ∷ h) l o = inr ((λ e. o .none-since s₁ n₁ (List·Memᴰ·head (cc))), granted-once t h (λ P s n m. l P s n (List·Memᴰ·tail m)) (once-tail o))
   granted-once t (allowed D xs s₁ ∷ h) l o = granted-once t h (λ P s n m. l P s n (List·Memᴰ·tail m)) (once-tail o)
   granted-once t (nothing ∷ h) l o = granted-once t h (λ P s n m. l P s n (List·Memᴰ·tail m)) (once-tail o)
 
   granted-split : (t : ℕ) (after : List Counted) → ((P s n : ℕ) → List·Memᴰ (gave C P s n) after → ⊥) → Granted (after ++ gave C R s n ∷ before) C t → FromAllocate C t s n after ⊎ FromRefresh C t after
-  granted-split t [] l (inl x) = inl (record { none-since = λ s n m. List·Memᴰ·not-nil m; not-zero = x .1; not-over = x .2 })
+  granted-split t [] l (inl x) = inl (record { none-since = λ s n m. List·Memᴰ·not-nil m; lasts = x .1 })
   granted-split t [] l (inr x) = absurd (x .0 refl)
   granted-split t (gave D P s₁ n₁ ∷ h) l (inl x) = absurd (l P s₁ n₁ (List·Memᴰ·head (cc)))
   granted-split t (gave D P s₁ n₁ ∷ h) l (inr x) = last-more (gave D P s₁ n₁) (λ s n e. let z : _≡_ {A = ℕ} 0 1 = cc in omega arith) (granted-split t h (λ P s n m. l P s n (List·Memᴰ·tail m)) (x .1))
-  granted-split t (kept D s₁ n₁ ∷ h) l (inl x) = inr (record { newer = []; older = h; s = s₁; n = n₁; refresh = cc; last = λ s n m. List·Memᴰ·not-nil m; not-zero = x .1; not-over = x .2 })
+  granted-split t (kept D s₁ n₁ ∷ h) l (inl x) = inr (record { newer = []; older = h; s = s₁; n = n₁; refresh = cc; last = λ s n m. List·Memᴰ·not-nil m; lasts = x .1 })
   granted-split t (kept D s₁ n₁ ∷ h) l (inr x) = last-more (kept D s₁ n₁) (λ s n e. x .0 (cc)) (granted-split t h (λ P s n m. l P s n (List·Memᴰ·tail m)) (x .1))
   granted-split t (allowed D xs s₁ ∷ h) l x = last-more (allowed D xs s₁) (λ s n e. let z : _≡_ {A = ℕ} 0 1 = cc in omega arith) (granted-split t h (λ P s n m. l P s n (List·Memᴰ·tail m)) x)
   granted-split t (nothing ∷ h) l x = last-more nothing (λ s n e. let z : _≡_ {A = ℕ} 0 1 = cc in omega arith) (granted-split t h (λ P s n m. l P s n (List·Memᴰ·tail m)) x)
@@ -136,12 +136,12 @@ module _ (C : FiveTuple) (R s n : ℕ) (before : List Counted) where
   allowed-split a t (allowed D xs s₁ ∷ h) (inr x) = permitted-more (allowed-split a t h x)
   allowed-split a t (nothing ∷ h) x = permitted-more (allowed-split a t h x)
 
-granted-again : (C : FiveTuple) (t s n : ℕ) (rest newer : List Counted) → ((P s n : ℕ) → List·Memᴰ (gave C P s n) newer → ⊥) → ((s n : ℕ) → List·Memᴰ (kept C s n) newer → ⊥) → n ≢ 0 → t < s + n → Granted (newer ++ kept C s n ∷ rest) C t
-granted-again C t s n rest [] l k z o = inl (refl, z, o)
-granted-again C t s n rest (gave D P s₁ n₁ ∷ h) l k z o = inr ((λ e. l P s₁ n₁ (List·Memᴰ·head (cc))), granted-again C t s n rest h (λ P s n m. l P s n (List·Memᴰ·tail m)) (λ s n m. k s n (List·Memᴰ·tail m)) z o)
-granted-again C t s n rest (kept D s₁ n₁ ∷ h) l k z o = inr ((λ e. k s₁ n₁ (List·Memᴰ·head (cc))), granted-again C t s n rest h (λ P s n m. l P s n (List·Memᴰ·tail m)) (λ s n m. k s n (List·Memᴰ·tail m)) z o)
-granted-again C t s n rest (allowed D xs s₁ ∷ h) l k z o = granted-again C t s n rest h (λ P s n m. l P s n (List·Memᴰ·tail m)) (λ s n m. k s n (List·Memᴰ·tail m)) z o
-granted-again C t s n rest (nothing ∷ h) l k z o = granted-again C t s n rest h (λ P s n m. l P s n (List·Memᴰ·tail m)) (λ s n m. k s n (List·Memᴰ·tail m)) z o
+granted-again : (C : FiveTuple) (t s n : ℕ) (rest newer : List Counted) → ((P s n : ℕ) → List·Memᴰ (gave C P s n) newer → ⊥) → ((s n : ℕ) → List·Memᴰ (kept C s n) newer → ⊥) → Lasts t s n → Granted (newer ++ kept C s n ∷ rest) C t
+granted-again C t s n rest [] l k o = inl (refl, o)
+granted-again C t s n rest (gave D P s₁ n₁ ∷ h) l k o = inr ((λ e. l P s₁ n₁ (List·Memᴰ·head (cc))), granted-again C t s n rest h (λ P s n m. l P s n (List·Memᴰ·tail m)) (λ s n m. k s n (List·Memᴰ·tail m)) o)
+granted-again C t s n rest (kept D s₁ n₁ ∷ h) l k o = inr ((λ e. k s₁ n₁ (List·Memᴰ·head (cc))), granted-again C t s n rest h (λ P s n m. l P s n (List·Memᴰ·tail m)) (λ s n m. k s n (List·Memᴰ·tail m)) o)
+granted-again C t s n rest (allowed D xs s₁ ∷ h) l k o = granted-again C t s n rest h (λ P s n m. l P s n (List·Memᴰ·tail m)) (λ s n m. k s n (List·Memᴰ·tail m)) o
+granted-again C t s n rest (nothing ∷ h) l k o = granted-again C t s n rest h (λ P s n m. l P s n (List·Memᴰ·tail m)) (λ s n m. k s n (List·Memᴰ·tail m)) o
 
 -- by the Allocate or a Refresh after it
 granted-join : (C : FiveTuple) (R s n : ℕ) (before : List Counted) (t : ℕ) (after : List Counted) → ((P s n : ℕ) → List·Memᴰ (gave C P s n) after → ⊥)
@@ -150,7 +150,7 @@ granted-join C R s n before t after l (inl o) = granted-once C R s n before t af
 granted-join C R s n before t after l (inr g) =
     rw (g .refresh)
     (rw append-assoc
-    (granted-again C t (g .s) (g .n) _ (g .newer) (λ P s n m. l P s n (rw (g .refresh) (Memᴰ·append-left _ m))) (g .last) (g .not-zero) (g .not-over)))
+    (granted-again C t (g .s) (g .n) _ (g .newer) (λ P s n m. l P s n (rw (g .refresh) (Memᴰ·append-left _ m))) (g .last) (g .lasts)))
 
 -- the two readings agree
 pub goes→ : (h : List Counted) (C : FiveTuple) (R : ℕ) (a : Address) (t : ℕ) → GoesTo h C R a t → Given h C R × Granted h C t × Allowed h C a t
@@ -168,24 +168,24 @@ goes← h C R a t g l p = go (given-split h C R g)
 
 -- of one that was granted to D
 granted-step : (C D : FiveTuple) (t s n : ℕ) (before : Bool) (Before : Type 0) → (before ≡ true) ↔ Before
-    → (pick (sameFiveTuple D C) (lasting t s n) before ≡ true) ↔ (((C ≡ D) × (n ≢ 0) × (t < s + n)) ⊎ ((C ≢ D) × Before))
+    → (pick (sameFiveTuple D C) (lasting t s n) before ≡ true) ↔ (((C ≡ D) × Lasts t s n) ⊎ ((C ≢ D) × Before))
 granted-step C D t s n before Before ih = go (sameFiveTuple D C) refl
   where
-    own : D ≡ C → lasting t s n ≡ true → ((C ≡ D) × (n ≢ 0) × (t < s + n)) ⊎ ((C ≢ D) × Before)
-    own q e = let r = both-parts _ _ e in inl (sym q, eqb-false n 0 (not-true _ (r .0)), ltb-true t (s + n) (r .1))
+    own : D ≡ C → lasting t s n ≡ true → ((C ≡ D) × Lasts t s n) ⊎ ((C ≢ D) × Before)
+    own q e = let r = both-parts _ _ e in inl (sym q, record { not-zero = eqb-false n 0 (not-true _ (r .0)); not-over = ltb-true t (s + n) (r .1) })
 
     other : sameFiveTuple D C ≡ false → C ≢ D
     other f q = absurd (true≢false (sym (five-tuple-refl C) ∙ rw (← q) at f))
 
-    go : (b : Bool) → sameFiveTuple D C ≡ b → (pick b (lasting t s n) before ≡ true) ↔ (((C ≡ D) × (n ≢ 0) × (t < s + n)) ⊎ ((C ≢ D) × Before))
+    go : (b : Bool) → sameFiveTuple D C ≡ b → (pick b (lasting t s n) before ≡ true) ↔ (((C ≡ D) × Lasts t s n) ⊎ ((C ≢ D) × Before))
     go true q = (own (five-tuple-same D C q), back)
       where
-        back : ((C ≡ D) × (n ≢ 0) × (t < s + n)) ⊎ ((C ≢ D) × Before) → lasting t s n ≡ true
-        back (inl x) = both-true _ _ (ap not (ne-eqb n 0 (x .1))) (lt-ltb t (s + n) (x .2))
+        back : ((C ≡ D) × Lasts t s n) ⊎ ((C ≢ D) × Before) → lasting t s n ≡ true
+        back (inl x) = both-true _ _ (ap not (ne-eqb n 0 (x .1 .not-zero))) (lt-ltb t (s + n) (x .1 .not-over))
         back (inr x) = absurd (x .0 (sym (five-tuple-same D C q)))
     go false q = (λ e. inr (other q, ih .0 e), back)
       where
-        back : ((C ≡ D) × (n ≢ 0) × (t < s + n)) ⊎ ((C ≢ D) × Before) → before ≡ true
+        back : ((C ≡ D) × Lasts t s n) ⊎ ((C ≢ D) × Before) → before ≡ true
         back (inl x) = absurd (other q (x .0))
         back (inr x) = ih .1 (x .1)
 

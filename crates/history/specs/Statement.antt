@@ -51,11 +51,15 @@ pub record Apart (slots : List Slot) (t : ℕ) : Type 0 where
 
 -- ---- The history: what was counted, the newest first
 
--- no Refresh of C was accepted since its Allocate, and that one's lifetime is 'not zero and not over at t'
-pub record FromAllocate (C : FiveTuple) (t s n : ℕ) (since : List Counted) : Type 0 where
-  pub none-since : (s n : ℕ) → List·Memᴰ (kept C s n) since → ⊥
+-- a lifetime of n seconds, granted at s: 'not zero and not over at t'
+pub record Lasts (t s n : ℕ) : Type 0 where
   pub not-zero : n ≢ 0
   pub not-over : t < s + n
+
+-- no Refresh of C was accepted since its Allocate, and that one's lifetime lasts
+pub record FromAllocate (C : FiveTuple) (t s n : ℕ) (since : List Counted) : Type 0 where
+  pub none-since : (s n : ℕ) → List·Memᴰ (kept C s n) since → ⊥
+  pub lasts : Lasts t s n
 
 -- or the last accepted Refresh since then counts
 pub record FromRefresh (C : FiveTuple) (t : ℕ) (since : List Counted) : Type 0 where
@@ -65,8 +69,7 @@ pub record FromRefresh (C : FiveTuple) (t : ℕ) (since : List Counted) : Type 0
   pub n : ℕ
   pub refresh : since ≡ newer ++ kept C s n ∷ older
   pub last : (s n : ℕ) → List·Memᴰ (kept C s n) newer → ⊥
-  pub not-zero : n ≢ 0
-  pub not-over : t < s + n
+  pub lasts : Lasts t s n
 
 -- 'C had a CreatePermission or ChannelBind accepted for that peer's IP address at some s with t < s + 300'
 pub record Permitted (C : FiveTuple) (a : Address) (t : ℕ) (since : List Counted) : Type 0 where
