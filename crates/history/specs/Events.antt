@@ -1,4 +1,4 @@
--- Calls, the relay after them, and the events that they make: a call with the outcome and the reply that came back.
+-- Calls, the events that they make, and what each event counts as.
 use Prim.Native.Nat.{ℕ, _+_, _<_, _^_}
 use mathlib.Core.Bool.{Bool}
 use mathlib.Core.Path.{_≡_}
@@ -53,37 +53,13 @@ pub record Arrival : Type 0 where
   pub call-fits : CallFits call
   pub bytes : Bytes datagram
 
--- ---- The relay
-
--- what a call does to the relay in that state
-abbrev pub acts : State → Arrival → Act
-acts st a = act st (a .call) (a .datagram) (length (a .reply))
-
--- its outcome, its reply buffer afterwards, and the relay as it leaves it
-abbrev pub outcome : State → Arrival → Outcome
-outcome st a = outcomeOf (acts st a)
-
-abbrev pub replied : State → Arrival → List ℕ
-replied st a = replyAfter (a .reply) (acts st a)
-
-abbrev pub next : State → Arrival → State
-next st a = stateAfter st (acts st a)
-
--- 'each gets the relay as the last one left it'
-abbrev pub run : State → List Arrival → State
-run st [] = st
-run st (a ∷ rest) = run (next st a) rest
-
 -- ---- Events
 
+-- a call with the outcome and the reply that came back
 pub record Event : Type 0 where
   pub arrival : Arrival
   pub outcome : Outcome
   pub reply : List ℕ
-
-abbrev pub events : State → List Arrival → List Event
-events st [] = []
-events st (a ∷ rest) = record { arrival = a; outcome = outcome st a; reply = replied st a } ∷ events (next st a) rest
 
 -- an entry was called, and did what every entry promises
 abbrev pub Happened : (before : State) → Event → (after : State) → Type 0
@@ -137,3 +113,27 @@ counts past e = countsBy (e .arrival .call) (e .arrival .datagram) (e .outcome) 
 abbrev pub counted : List Counted → List Event → List Counted
 counted past [] = past
 counted past (e ∷ rest) = counted (counts past e ∷ past) rest
+
+-- ---- The same, computed: what a list of calls makes of a state (`lived-run` and `lived-is` in `proofs/Demand.antt`)
+
+-- what a call does to the relay in that state
+abbrev pub acts : State → Arrival → Act
+acts st a = act st (a .call) (a .datagram) (length (a .reply))
+
+-- its outcome, its reply buffer afterwards, and the relay as it leaves it
+abbrev pub outcome : State → Arrival → Outcome
+outcome st a = outcomeOf (acts st a)
+
+abbrev pub replied : State → Arrival → List ℕ
+replied st a = replyAfter (a .reply) (acts st a)
+
+abbrev pub next : State → Arrival → State
+next st a = stateAfter st (acts st a)
+
+abbrev pub run : State → List Arrival → State
+run st [] = st
+run st (a ∷ rest) = run (next st a) rest
+
+abbrev pub events : State → List Arrival → List Event
+events st [] = []
+events st (a ∷ rest) = record { arrival = a; outcome = outcome st a; reply = replied st a } ∷ events (next st a) rest
