@@ -40,7 +40,7 @@ still-lapsed C a t past (e ∷ more) none l = still-lapsed C a t (counts past e 
     one xs ends (List·Memᴰ·head q) m = absurd (none .0 xs ends (sym q) m)
     one xs ends (List·Memᴰ·tail k) m = l xs ends k m
 
-counted-append : (past : List Counted) (list more : List Event) → counted past (list ++ more) ≡ counted (counted past list) more
+pub counted-append : (past : List Counted) (list more : List Event) → counted past (list ++ more) ≡ counted (counted past list) more
 counted-append past [] more = refl
 counted-append past (e ∷ list) more = counted-append (counts past e ∷ past) list more
 

@@ -14,6 +14,7 @@ pub mod ReadBack
 pub mod Fits
 pub mod Own
 pub mod Corollaries
+pub mod Shut
 pub mod Lines
 pub mod Sample
 pub mod Witnesses

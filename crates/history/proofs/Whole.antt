@@ -39,7 +39,7 @@ use Rattle.relay.specs.Step.{onAsked, decided, done, accepted, act}
 use Rattle.relay.proofs.Laws.{not-refused}
 use Rattle.history.specs.Counted.{Counted, nothing}
 use Rattle.client_reader.specs.Fields.{Bytes}
-use Rattle.history.specs.Events.{CallFits, Arrival, acts, outcome, Event, Happened, Lived, countsBy, counts, counted}
+use Rattle.history.specs.Events.{CallFits, Arrival, acts, outcome, replied, next, Event, Happened, Lived, countsBy, counts, counted}
 use Rattle.history.specs.Statement.{Live, Apart, GoesTo, FromAddress}
 use Rattle.history.proofs.Readings.{given-holder, goes→, goes←}
 use Rattle.history.proofs.Table as table
@@ -74,7 +74,7 @@ accounts-empty = record {
 }
 
 -- ---- One call
-refused-counts : (call : Call) (s : List ℕ) (number : ℕ) (reply : List ℕ) → countsBy call s (Refused number) reply ≡ nothing
+pub refused-counts : (call : Call) (s : List ℕ) (number : ℕ) (reply : List ℕ) → countsBy call s (Refused number) reply ≡ nothing
 refused-counts (Client call) s number reply = refl
 refused-counts (Peer call) s number reply = refl
 
@@ -126,33 +126,39 @@ made (Client call) st s reply full fits bytes = go (askedBy s) refl
     go asked is = same (onAsked call s (st .slots) asked .place) (onAsked call s (st .slots) asked .change) (made-asked call (atTime (call .time) st) s reply full fits bytes asked is)
 made (Peer call) st s reply full fits bytes = rw (peer-stays call st s) (quiet (call .time) (slotAt (st .slots)))
 
-module _ (st : State) (a : Arrival) (past : List Counted) (I : AccountsFor past st) where
-  -- so it is after an act
-  abbrev After : Act → Type 0
-  After x = AccountsFor (countsBy (a .call) (a .datagram) (outcomeOf x) (replyAfter (a .reply) x) ∷ past) (stateAfter st x)
+-- what a call does to the table: nothing, where it is refused; else a change at its time, which what it counts as allows
+pub data Moved (st : State) (a : Arrival) (x : Act) : Type 0 where
+  refused : (number : ℕ) → x ≡ refuse number → Moved st a x
+  changed : clockOf st ≤ timeOf (a .call) → clockOf (stateAfter st x) ≡ timeOf (a .call)
+      → table.Change (timeOf (a .call)) (slotAt (st .slots)) (slotAt (stateAfter st x .slots)) (countsBy (a .call) (a .datagram) (outcomeOf x) (replyAfter (a .reply) x))
+      → Moved st a x
 
-  after-refused : (number : ℕ) → After (refuse number)
-  after-refused number = rw (refused-counts (a .call) (a .datagram) number (a .reply)) (keep-accounts _ _ _ _ past nothing (le-refl _) I (quiet _ _))
+pub moves : (st : State) (a : Arrival) → Moved st a (acts st a)
+unfolding act
+moves st a = go (eqb number 0) refl
+  where
+    number : ℕ
+    number = refusal (clockOf st) (lengths (length (st .slots)) (length (a .datagram)) (length (a .reply))) (a .call)
 
-  after-accepted : refusal (clockOf st) (lengths (length (st .slots)) (length (a .datagram)) (length (a .reply))) (a .call) ≡ 0 → After (accepted st (a .call) (a .datagram))
-  after-accepted e =
-      let w = not-refused (clockOf st) (st .slots) (a .datagram) (a .reply) (a .call) e in
-      rw (clock-accepted st (a .call) (a .datagram))
-      (keep-accounts _ (timeOf (a .call)) _ _ past _ (w .not-before) I (made (a .call) st (a .datagram) (a .reply) (w .sixty-four) (a .call-fits) (a .bytes)))
+    go : (b : Bool) → eqb number 0 ≡ b → Moved st a (pick b (accepted st (a .call) (a .datagram)) (refuse number))
+    go true e =
+        let w = not-refused (clockOf st) (st .slots) (a .datagram) (a .reply) (a .call) (eqb-true number 0 e) in
+        changed (w .not-before) (clock-accepted st (a .call) (a .datagram))
+        (made (a .call) st (a .datagram) (a .reply) (w .sixty-four) (a .call-fits) (a .bytes))
+    go false e = refused number refl
 
-  after-call : After (acts st a)
-  unfolding act
-  after-call = go (eqb number 0) refl
-    where
-      number : ℕ
-      number = refusal (clockOf st) (lengths (length (st .slots)) (length (a .datagram)) (length (a .reply))) (a .call)
-
-      go : (b : Bool) → eqb number 0 ≡ b → After (pick b (accepted st (a .call) (a .datagram)) (refuse number))
-      go true e = after-accepted (eqb-true number 0 e)
-      go false e = after-refused number
+-- so what was counted accounts for the state after it
+after-call : (st : State) (a : Arrival) (past : List Counted) → AccountsFor past st
+    → AccountsFor (countsBy (a .call) (a .datagram) (outcome st a) (replied st a) ∷ past) (next st a)
+after-call st a past I = go (acts st a) (moves st a)
+  where
+    go : (x : Act) → Moved st a x → AccountsFor (countsBy (a .call) (a .datagram) (outcomeOf x) (replyAfter (a .reply) x) ∷ past) (stateAfter st x)
+    go x (refused number e) =
+        rw (e, refused-counts (a .call) (a .datagram) number (a .reply)) (keep-accounts _ _ _ _ past nothing (le-refl _) I (quiet _ _))
+    go x (changed le clock c) = rw clock (keep-accounts _ (timeOf (a .call)) _ _ past _ le I c)
 
 -- ---- Every list of calls
-happened-accounts : (before : State) (e : Event) (after : State) (past : List Counted) → Happened before e after → AccountsFor past before
+pub happened-accounts : (before : State) (e : Event) (after : State) (past : List Counted) → Happened before e after → AccountsFor past before
     → AccountsFor (counts past e ∷ past) after
 happened-accounts before e after past h I = rw (h .state-is, h .outcome-is, h .reply-is) (after-call before (e .arrival) past I)
 
