@@ -5,7 +5,8 @@ use Rattle.relay.specs.State.{State, empty}
 use Rattle.history.specs.Counted.{Counted}
 use Rattle.history.specs.Events.{Arrival, outcome, replied, run, Event, events, Happened, Lived, counted}
 use Rattle.history.specs.Statement.{Demand3From, Demand3}
-use Rattle.history.proofs.Whole.{AccountsFor, accounts-empty, lived-accounts, apart, delivery, nobody}
+use Rattle.history.proofs.Table.{AccountsFor}
+use Rattle.history.proofs.Whole.{accounts-empty, lived-accounts, apart, delivery, nobody}
 
 -- ---- Lists of calls
 

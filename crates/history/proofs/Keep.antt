@@ -1,4 +1,4 @@
--- A call keeps the tie between the table and the history, whatever it is.
+-- Whatever a call counts as: where what was counted accounts for the table before it, it does so after it.
 use mathlib.Core.Path.{_≡_, refl, sym, _∙_, ap, subst}
 use mathlib.Core.Logic.{_≢_, _⊎_, inl, inr}
 use mathlib.Core.List.{List, _∷_, List·Memᴰ}
@@ -201,7 +201,7 @@ module _ (now : ℕ) (v w : View) (h : List Counted) (I : Accounts now v h) wher
           go (inl e) = (c .k, c .who ∙ ap (λ (m : ℕ). v m .allocation .«five_tuple») (sym e) ∙ s .1, rw (c .until, ← e) (s .2))
           go (inr e) = let lt : t < v (s .0) .allocation .expiry = s .2 in let p = c .frame .before (s .0) e (omega arith) in (s .0, rw p (s .1), rw p lt)
 
--- any call: from the stored clock to its time, with the deed that it counts as
+-- any call: from the stored clock to its time, with what it counts as
 pub keep : (clock now : ℕ) (v w : View) (h : List Counted) (d : Counted) → clock ≤ now → Accounts clock v h → Change now v w d → Accounts now w (d ∷ h)
 keep clock now v w h nothing le I c = accounts-nothing now w h (accounts-quiet now v w h (accounts-later clock now v h le I) c)
 keep clock now v w h (gave C R s n) le I c = rw (c .0) (keep-allot now v w h (accounts-later clock now v h le I) C R n (c .1))

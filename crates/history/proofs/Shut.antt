@@ -18,8 +18,8 @@ use Rattle.history.specs.Events.{Arrival, acts, next, Event, Happened, L
 use Rattle.history.specs.Statement.{Live, Lasts, FromAddress, Comes, To}
 use Rattle.history.proofs.Readings.{Given, Granted, Allowed, goes→, goes←}
 use Rattle.history.proofs.Table as table
-use Rattle.history.proofs.Table.{Renew, End}
-use Rattle.history.proofs.Whole.{AccountsFor, Moved, refused, changed, moves, refused-counts, happened-accounts, lived-accounts}
+use Rattle.history.proofs.Table.{AccountsFor}
+use Rattle.history.proofs.Whole.{Moved, refused, changed, moves, refused-counts, happened-accounts, lived-accounts}
 use Rattle.history.proofs.Demand.{lived-middle, demand-3-from}
 use Rattle.history.proofs.Corollaries.{NoneFor, counted-append}
 

@@ -1,4 +1,4 @@
--- A table seen as a function from slot numbers to slots; what a call may do to it (Change); what ties it to the history (Accounts).
+-- A table seen as a function from slot numbers to slots; what a call may do to it (Change); that what was counted accounts for it (Accounts).
 use mathlib.Core.Path.{_≡_}
 use mathlib.Core.Logic.{_≢_, _⊎_}
 use mathlib.Core.List.{List, List·Memᴰ}
@@ -9,6 +9,8 @@ use Rattle.address.specs.declared.FiveTuple.{FiveTuple}
 use Rattle.table.specs.declared.Permission.{Permission}
 use Rattle.table.specs.declared.Channel.{Channel}
 use Rattle.table.specs.declared.Slot.{Slot}
+use Rattle.slots.specs.Slots.{slotAt}
+use Rattle.relay.specs.State.{State, clockOf}
 use Rattle.history.specs.Counted.{Counted, gave, kept, allowed, nothing}
 use Rattle.history.specs.Statement.{permissionAt, channelAt, Live, LiveChannel}
 use Rattle.history.proofs.Readings.{Given, Granted, Allowed, given-port, given-holder}
@@ -98,14 +100,14 @@ pub record Admit (now : ℕ) (v w : View) (C : FiveTuple) (xs : List Address) : 
   pub perms→ : (a : Address) (t : ℕ) → now ≤ t → HasPermission t a (w k .permissions) → (List·Memᴰ a xs × (t < now + 300)) ⊎ HasPermission t a (v k .permissions)
   pub perms← : Tidy now (v k) → (a : Address) (t : ℕ) → now ≤ t → (List·Memᴰ a xs × (t < now + 300)) ⊎ HasPermission t a (v k .permissions) → HasPermission t a (w k .permissions)
 
--- what a call that counts as this deed does to the table, at its time
+-- what a call that counts as this does to the table, at its time
 abbrev pub Change : ℕ → View → View → Counted → Type 0
 Change now v w nothing = Quiet now v w
 Change now v w (gave C R s n) = (s ≡ now) × Allot now v w C R n
 Change now v w (kept C s n) = (s ≡ now) × (Renew now v w C n ⊎ End now v w C n)
 Change now v w (allowed C xs ends) = (ends ≡ now + 300) × Admit now v w C xs
 
--- ---- the tie between the table and the history
+-- ---- What was counted accounts for the table: whatever the table says at the clock or later, the history says
 pub record Accounts (clock : ℕ) (v : View) (h : List Counted) : Type 0 where
   pub own : (i j : ℕ) → Live clock (v i) → Live clock (v j) → v i .allocation .«five_tuple» ≡ v j .allocation .«five_tuple» → i ≡ j
   pub neat : (i : ℕ) → Live clock (v i) → Tidy clock (v i)
@@ -114,6 +116,10 @@ pub record Accounts (clock : ℕ) (v : View) (h : List Counted) : Type 0 where
   pub granted← : (C : FiveTuple) (t : ℕ) → clock ≤ t → Granted h C t → (i : ℕ) × (v i .allocation .«five_tuple» ≡ C) × (t < v i .allocation .expiry)
   pub allowed→ : (i : ℕ) → Live clock (v i) → (a : Address) (t : ℕ) → clock ≤ t → HasPermission t a (v i .permissions) → Allowed h (v i .allocation .«five_tuple») a t
   pub allowed← : (i : ℕ) → Live clock (v i) → (a : Address) (t : ℕ) → clock ≤ t → Allowed h (v i .allocation .«five_tuple») a t → HasPermission t a (v i .permissions)
+
+-- of the relay's state
+abbrev pub AccountsFor : List Counted → State → Type 0
+AccountsFor past st = Accounts (clockOf st) (slotAt (st .slots)) past
 
 -- two live allocations never share a port
 pub own-port : (clock : ℕ) (v : View) (h : List Counted) → Accounts clock v h → (i j : ℕ) → Live clock (v i) → Live clock (v j) → v i .allocation .port ≡ v j .allocation .port → i ≡ j

@@ -43,14 +43,10 @@ use Rattle.history.specs.Events.{CallFits, Arrival, acts, outcome, repli
 use Rattle.history.specs.Statement.{Live, Apart, GoesTo, FromAddress}
 use Rattle.history.proofs.Readings.{given-holder, goes→, goes←}
 use Rattle.history.proofs.Table as table
-use Rattle.history.proofs.Table.{Accounts, own-port, accounts-later, Reach, reach→, reach←}
+use Rattle.history.proofs.Table.{Accounts, AccountsFor, own-port, accounts-later, Reach, reach→, reach←}
 use Rattle.history.proofs.Keep.{keep as keep-accounts}
 use Rattle.history.proofs.Tests.{find-some, port-is, none-port, has-permission→, has-permission←}
 use Rattle.history.proofs.Made.{quiet, made-asked}
-
--- the history accounts for the state: what ties them
-abbrev pub AccountsFor : List Counted → State → Type 0
-AccountsFor past st = Accounts (clockOf st) (slotAt (st .slots)) past
 
 -- ---- The empty relay
 pub fresh-slots : (n i : ℕ) → slotAt (replicate n freshSlot) i ≡ freshSlot
