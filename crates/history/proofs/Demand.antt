@@ -15,6 +15,11 @@ pub lived-middle : (before rest : List Event) (first last : State) → Lived fir
 lived-middle [] rest first last l = (first, refl, l)
 lived-middle (e ∷ before) rest first last l = let m = lived-middle before rest (l .0) last (l .2) in (m .0, (l .0, l .1, m .1), m .2)
 
+-- one call more, at the end
+pub lived-then : (list : List Event) (e : Event) (first st last : State) → Lived first list st → Happened st e last → Lived first (list ++ e ∷ []) last
+lived-then [] e first st last l h = (last, rw l h, refl)
+lived-then (x ∷ list) e first st last l h = (l .0, l .1, lived-then list e (l .0) st last (l .2) h)
+
 -- the calls of the list
 abbrev pub arrivals : List Event → List Arrival
 arrivals list = map (λ e. e .arrival) list
