@@ -164,7 +164,7 @@ goes← h C R a t g l p = go (given-split h C R g)
     go : Is h C R → GoesTo h C R a t
     go (is after before s n e la al) = record { since = after; before = before; s = s; n = n; allocate = e; latest = la; alone = al; lifetime = granted-split C R s n before t after la (rw e at l); permission = allowed-split C R s n before a t after (rw e at p) }
 
--- ---- the computed reading of the last lifetime
+-- ---- `granted` is the same, computed
 
 -- of one that was granted to D
 granted-step : (C D : FiveTuple) (t s n : ℕ) (before : Bool) (Before : Type 0) → (before ≡ true) ↔ Before
@@ -189,7 +189,7 @@ granted-step C D t s n before Before ih = go (sameFiveTuple D C) refl
         back (inl x) = absurd (other q (x .0))
         back (inr x) = ih .1 (x .1)
 
-granted-is : (h : List Counted) (C : FiveTuple) (t : ℕ) → (granted h C t ≡ true) ↔ Granted h C t
+pub granted-is : (h : List Counted) (C : FiveTuple) (t : ℕ) → (granted h C t ≡ true) ↔ Granted h C t
 unfolding granted
 granted-is [] C t = (λ e. false≢true e, λ x. absurd x)
 granted-is (gave D P s n ∷ h) C t = granted-step C D t s n (granted h C t) (Granted h C t) (granted-is h C t)
