@@ -25,7 +25,7 @@ use Rattle.client_reader.proofs.Types.{length-types-from, all-below}
 use Rattle.client_reader.specs.declared.ReadMessage.{ReadMessage}
 use Rattle.client_reader.specs.Fields.{Bytes, IdFits, AddressFits, TypesInRange, DataInRange, InRange}
 use Rattle.table.specs.Table.{isChannelNumber}
-use Rattle.client_reader.specs.Reader.{when, fieldsOf, allocateFields, refreshFields, bareFields, typesFrom, typesOf, allBelow, countFits, unknownFields, codeOf, plainErrorFields, errorFields, dataFits, indicationFields, channelFields, stunFields}
+use Rattle.client_reader.specs.Inner.{when, fieldsOf, allocateFields, refreshFields, bareFields, typesFrom, typesOf, allBelow, countFits, unknownFields, codeOf, plainErrorFields, errorFields, dataFits, indicationFields, channelFields, stunFields}
 
 module _ (s : List ℕ) (h : Bytes s) where
   abbrev Fits : ReadMessage → Type 0

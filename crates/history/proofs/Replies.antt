@@ -23,9 +23,10 @@ use Rattle.rules.specs.Act.{Out, dropped, toClient, toPeer, Change, keep, write
 use Rattle.relay.specs.declared.incoming.Call.the-variants.{Client}
 use Rattle.relay.specs.declared.incoming.FromClient.{FromClient}
 use Rattle.client_reader.specs.declared.ReadMessage.{ReadMessage}
-use Rattle.client_reader.specs.Fields.{Bytes, IdFits, AddressFits, written}
+use Rattle.client_reader.specs.Fields.{Bytes, IdFits, AddressFits, written, plain}
 use Rattle.client_reader.specs.declared.Message.the-variants.{Error}
-use Rattle.client_reader.specs.Reader.{plain, countFits, allBelow, typesOf, unknownOf, when, errorFields, unknownFields, plainErrorFields, codeOf, fieldsOf, sameBytes, checked, readOf}
+use Rattle.client_reader.specs.Inner.{countFits, allBelow, typesOf, unknownOf, when, errorFields, unknownFields, plainErrorFields, codeOf, fieldsOf, sameBytes, checked}
+use Rattle.client_reader.specs.Reader.{readOf}
 use Rattle.client_reader.proofs.Laws.{read-allocate, read-refresh, read-bare}
 use Rattle.client_reader.proofs.Around.{num-lt}
 use Rattle.history.specs.Counted.{Counted, gave, kept, allowed, nothing}

@@ -27,7 +27,7 @@ use Rattle.relay.specs.State.{State, empty}
 use Rattle.relay.specs.Refusals.{clientDatagram, peerDatagram, refusal}
 use Rattle.relay.specs.Step.{portsHeld, decided, accepted, act}
 use Rattle.client_reader.specs.Fields.{Bytes}
-use Rattle.client_reader.specs.Reader.{allBelow}
+use Rattle.client_reader.specs.Inner.{allBelow}
 use Rattle.client_reader.proofs.Types.{all-below}
 use Rattle.history.specs.Events.{Arrival, outcome, replied, run}
 

@@ -1,3 +1,4 @@
 pub mod Counted
 pub mod Events
 pub mod Statement
+pub mod ReadBack
