@@ -3,7 +3,7 @@ use Prim.Native.Nat.{ℕ, _+_, _-_, _≤_, _<_, _^_}
 use mathlib.Core.Path.{_≡_, refl, sym, ap, _∙_}
 use mathlib.Core.Logic.{_⊎_, inl, inr}
 use mathlib.Core.Bool.{Bool, true, false, not, false≢true}
-use mathlib.Core.List.{List, [], _++_}
+use mathlib.Core.List.{List, []}
 use native.Mathlib.Omega.{arith}
 use lib.Dec.{eqb, lit<}
 use lib.ListN.{length, take, drop, set, replicate}
@@ -36,7 +36,7 @@ use Rattle.rules.specs.declared.answer.Outcome.the-variants.{ToClient}
 use Rattle.rules.specs.Act as rules
 use Rattle.rules.specs.Act.{Out, dropped, toClient, toPeer, Change, keep, write, outOf, slotAfter, errorMessage, respond}
 use Rattle.rules.specs.Values.{lifetime, granted, grantedRefresh, anyUnknown, isIpv6, ipv4Of, malformedPeer, ipv6Peer}
-use Rattle.rules.specs.Requests.{allocated, allocate, renewed, refreshed, refresh, createPermissionCode, createPermission, channelBind}
+use Rattle.rules.specs.Requests.{allocated, allocate, renewed, refreshed, refresh, createPermission, channelBind}
 use Rattle.rules.specs.Data.{permitted, sentFrom, send, channelledFrom, channelled, relayed, fromPeer}
 use Rattle.rules.specs.declared.client.Asked.{Asked}
 use Rattle.rules.specs.declared.client.Asked.the-variants as Asked
@@ -58,7 +58,7 @@ use Rattle.client_reader.specs.declared.ReadMessage.{ReadMessage}
 use Rattle.client_reader.specs.Fields.{Bytes, IdFits, AddressFits, IsBare, IsMessage, InRange, written, dataOf, plain, nothing}
 use Rattle.client_reader.proofs.Laws.{written-read, message-exact, indication-within, indication-data, channel-within, channel-data}
 use Rattle.history.specs.Events.{CallFits, TransportFits, Arrival, acts}
-use Rattle.history.specs.ReadBack.{ownPlace, freePlace, slotIn, errorFor, responseFor, relayedFor, answerFor, fieldsFor, dataFor, ReadAs, ReadBack}
+use Rattle.history.specs.ReadBack.{ownPlace, freePlace, slotIn, unknownFor, errorFor, responseFor, relayedFor, answerFor, fieldsFor, dataFor, ReadAs, ReadBack}
 use Rattle.history.proofs.Tests.{find-some, leads-is}
 use Rattle.history.proofs.FreePort.{port-fits}
 use Rattle.history.proofs.Replies.{id-fits}
@@ -71,13 +71,15 @@ read-as : (m : ReadMessage) (payload message : List ℕ) → IsMessage m → InR
 read-as m payload message is r w d = record { is-message = is; exact = message-exact message m is r w; read = written-read message m is r w; shown = d }
 
 module _ (id : TransactionId) (h : IdFits id) where
-  allocate-back : (relay port seconds : ℕ) (client : Transport) → relay < 2 ^ 32 → port < 2 ^ 16 → seconds < 2 ^ 32 → TransportFits client
-      → ReadAs (plain (Is.AllocateSuccess id relay port seconds client)) [] (allocateSuccess id relay port seconds client)
-  allocate-back relay port seconds client hr hp hs hc =
-      read-as _ _ _ (λ e. let z : _≡_ {A = ℕ} 0 1 = cc in omega arith) (h, hr, hp, hs, hc .0, hc .1, refl) refl refl
+  allocate-back : (relay port seconds : ℕ) (client : Transport) {port′ seconds′ : ℕ} → relay < 2 ^ 32 → port < 2 ^ 16 → seconds < 2 ^ 32 → TransportFits client
+      → port′ ≡ port → seconds′ ≡ seconds
+      → ReadAs (plain (Is.AllocateSuccess id relay port′ seconds′ client)) [] (allocateSuccess id relay port seconds client)
+  allocate-back relay port seconds client hr hp hs hc p q =
+      rw (p, q) (read-as _ _ _ (λ e. let z : _≡_ {A = ℕ} 0 1 = cc in omega arith) (h, hr, hp, hs, hc .0, hc .1, refl) refl refl)
 
-  refresh-back : (seconds : ℕ) → seconds < 2 ^ 32 → ReadAs (plain (Is.RefreshSuccess id seconds)) [] (refreshSuccess id seconds)
-  refresh-back seconds hs = read-as _ _ _ (λ e. let z : _≡_ {A = ℕ} 0 1 = cc in omega arith) (h, hs, refl) refl refl
+  refresh-back : (seconds : ℕ) {seconds′ : ℕ} → seconds < 2 ^ 32 → seconds′ ≡ seconds
+      → ReadAs (plain (Is.RefreshSuccess id seconds′)) [] (refreshSuccess id seconds)
+  refresh-back seconds hs q = rw q (read-as _ _ _ (λ e. let z : _≡_ {A = ℕ} 0 1 = cc in omega arith) (h, hs, refl) refl refl)
 
   bare-back : (method : Method) → IsBare method → ReadAs (plain (Is.BareSuccess method id)) [] (bareSuccess method id)
   bare-back method b = read-as _ _ _ (λ e. let z : _≡_ {A = ℕ} 0 1 = cc in omega arith) (h, b, refl) refl refl
@@ -85,13 +87,6 @@ module _ (id : TransactionId) (h : IdFits id) where
   error-back : (method : Method) (code : ℕ) → 300 ≤ code → code ≤ 699 → (code ≡ 420 → ⊥)
       → ReadAs (plain (Is.Error method id code)) [] (errorResponse method id code)
   error-back method code low high other = read-as _ _ _ (λ e. let z : _≡_ {A = ℕ} 0 1 = cc in omega arith) (h, low, high, other, refl) refl refl
-
-  unknown-back : (method : Method) (s : List ℕ) → anyUnknown s ≡ true
-      → ReadAs (record { message = Is.UnknownAttributes method id (length (unknownTypes s)); types = unknownTypes s ++ replicate (16 - length (unknownTypes s)) 0 }) []
-      (unknownResponse method id (unknownTypes s))
-  unknown-back method s e =
-      read-as _ _ _ (λ e. let z : _≡_ {A = ℕ} 0 1 = cc in omega arith) (h, types-in-range s e)
-      (ap (unknownResponse method id) (take-at (unknownTypes s) (replicate (16 - length (unknownTypes s)) 0) (length (unknownTypes s)) refl)) refl
 
   indication-back : (peer port : ℕ) (payload : List ℕ) → peer < 2 ^ 32 → port < 2 ^ 16 → length payload ≤ 1500
       → ReadAs (plain (Is.DataIndication id peer port 36 (length payload))) payload (dataIndication id peer port payload)
@@ -138,19 +133,21 @@ until-expiry time seconds was e = rw e (go (eqb seconds 0) refl)
     go false z = omega arith
 
 module _ (s : List ℕ) (bytes : Bytes s) where
+  unknown-back : (method : Method) → anyUnknown s ≡ true → ReadAs (unknownFor method s) [] (unknownResponse method (transactionId s) (unknownTypes s))
+  unknown-back method e =
+      read-as _ _ _ (λ e. let z : _≡_ {A = ℕ} 0 1 = cc in omega arith) (id-fits s bytes, types-in-range s e)
+      (ap (unknownResponse method (transactionId s)) (take-at (unknownTypes s) (replicate (16 - length (unknownTypes s)) 0) (length (unknownTypes s)) refl)) refl
+
   error-message-back : (method : Method) (code : ℕ) → Coded s code → (code ≡ 0 → ⊥) → ReadAs (errorFor method s code) [] (errorMessage method s code)
   unfolding errorMessage
   error-message-back method code h ne = go (eqb code 420) refl (h .range)
     where
-      id : TransactionId
-      id = transactionId s
-
       go : (b : Bool) → eqb code 420 ≡ b → (code ≡ 0) ⊎ ((300 ≤ code) × (code ≤ 699))
-          → ReadAs (pick b (record { message = Is.UnknownAttributes method id (length (unknownTypes s)); types = unknownTypes s ++ replicate (16 - length (unknownTypes s)) 0 }) (plain (Is.Error method id code))) []
-          (pick b (unknownResponse method id (unknownTypes s)) (errorResponse method id code))
+          → ReadAs (pick b (unknownFor method s) (plain (Is.Error method (transactionId s) code))) []
+          (pick b (unknownResponse method (transactionId s) (unknownTypes s)) (errorResponse method (transactionId s) code))
       go b e (inl z) = absurd (ne z)
-      go true e (inr r) = unknown-back id (id-fits s bytes) method s (h .unknown (eqb-true code 420 e))
-      go false e (inr r) = error-back id (id-fits s bytes) method code (r .0) (r .1) (eqb-false code 420 e)
+      go true e (inr r) = unknown-back method (h .unknown (eqb-true code 420 e))
+      go false e (inr r) = error-back (transactionId s) (id-fits s bytes) method code (r .0) (r .1) (eqb-false code 420 e)
 
   -- an accepted request writes its slot
   answered-by : (fiveTuple : FiveTuple) (method : Method) (code : ℕ) (accepted : Change) → code ≡ 0 → respond fiveTuple method s code accepted ≡ accepted
@@ -175,40 +172,42 @@ module _ (s : List ℕ) (bytes : Bytes s) where
     allocate-readable left =
         respond-back _ _ _ _ _ (allocate-coded s (asRules call) (surveyOf call before)) (λ e.
         let range = granted-range (lifetime s) in
-        let slot = left .wrote _ _ (answered-by _ _ _ _ e) in
-        let port : slotIn after (freePlace call before) .allocation .port ≡ surveyOf call before .port = rw slot refl in
-        let seconds : slotIn after (freePlace call before) .allocation .expiry - call .time ≡ granted (lifetime s) = rw slot (omega arith) in
-        rw (port, seconds) (allocate-back (transactionId s) (id-fits s bytes) _ _ _ _ (fits .0) (port-fits _ _) (omega arith) (fits .1)))
+        let made = left .wrote _ _ (answered-by _ _ _ _ e) in
+        let port : slotIn after (freePlace call before) .allocation .port ≡ surveyOf call before .port = rw made refl in
+        let seconds : slotIn after (freePlace call before) .allocation .expiry - call .time ≡ granted (lifetime s) = rw made (omega arith) in
+        allocate-back (transactionId s) (id-fits s bytes) _ _ _ _ (fits .0) (port-fits _ _) (omega arith) (fits .1) port seconds)
 
-    refresh-readable : Left before after (ownPlace call before) (refresh (asRules call) s (has (ownPlace call before)) (slotIn before (ownPlace call before)))
-        → Readable (responseFor call s before after Refresh) [] (outOf (refresh (asRules call) s (has (ownPlace call before)) (slotIn before (ownPlace call before))))
+    abbrev own : Bool
+    own = has (ownPlace call before)
+
+    abbrev slot : Slot
+    slot = slotIn before (ownPlace call before)
+
+    refresh-readable : Left before after (ownPlace call before) (refresh (asRules call) s own slot)
+        → Readable (responseFor call s before after Refresh) [] (outOf (refresh (asRules call) s own slot))
     unfolding refresh
     refresh-readable left =
         respond-back _ _ _ _ _ (refresh-coded s (asRules call) _ _) (λ e.
-        let slot = left .wrote _ _ (answered-by _ _ _ _ e) in
-        rw (until-expiry (call .time) (grantedRefresh (lifetime s)) (slotIn before (ownPlace call before)) slot) (refresh-back (transactionId s) (id-fits s bytes) _ (small (granted-refresh-range (lifetime s)))))
+        let made = left .wrote _ _ (answered-by _ _ _ _ e) in
+        refresh-back (transactionId s) (id-fits s bytes) _ (small (granted-refresh-range (lifetime s)))
+        (until-expiry (call .time) (grantedRefresh (lifetime s)) slot made))
       where
         small : (grantedRefresh (lifetime s) ≡ 0) ⊎ ((600 ≤ grantedRefresh (lifetime s)) × (grantedRefresh (lifetime s) ≤ 3600)) → grantedRefresh (lifetime s) < 2 ^ 32
         small (inl z) = omega arith
         small (inr z) = omega arith
 
-    permission-readable : (own : Bool) (slot : Slot)
-        → Readable (pick (eqb (createPermissionCode (asRules call) s own slot) 0) (plain (Is.BareSuccess CreatePermission (transactionId s))) (errorFor CreatePermission s (createPermissionCode (asRules call) s own slot))) []
-        (outOf (createPermission (asRules call) s own slot))
+    permission-readable : Readable (responseFor call s before after CreatePermission) [] (outOf (createPermission (asRules call) s own slot))
     unfolding createPermission
-    permission-readable own slot =
-        respond-back _ _ _ _ _ (permission-coded s (asRules call) own slot) (λ e. bare-back (transactionId s) (id-fits s bytes) CreatePermission tt)
+    permission-readable = respond-back _ _ _ _ _ (permission-coded s (asRules call) own slot) (λ e. bare-back (transactionId s) (id-fits s bytes) CreatePermission tt)
 
-    channel-readable : Readable (responseFor call s before after ChannelBind) []
-        (outOf (channelBind (asRules call) s (has (ownPlace call before)) (slotIn before (ownPlace call before))))
+    channel-readable : Readable (responseFor call s before after ChannelBind) [] (outOf (channelBind (asRules call) s own slot))
     unfolding channelBind
-    channel-readable =
-        respond-back _ _ _ _ _ (channel-coded s (asRules call) _ _ _ _) (λ e. bare-back (transactionId s) (id-fits s bytes) ChannelBind tt)
+    channel-readable = respond-back _ _ _ _ _ (channel-coded s (asRules call) own slot _ _) (λ e. bare-back (transactionId s) (id-fits s bytes) ChannelBind tt)
 
     -- ---- A client's data
-    send-readable : (own : Bool) (slot : Slot) → Readable nothing [] (send (asRules call) s own slot)
+    send-readable : Readable nothing [] (send (asRules call) s own slot)
     unfolding send
-    send-readable own slot =
+    send-readable =
         unless _ _ (anyUnknown s) _
         (unless _ _ (not own) _
         (unless _ _ (malformedPeer (firstPeer s)) _
@@ -218,9 +217,9 @@ module _ (s : List ℕ) (bytes : Bytes s) where
         go (Value start len) = tt
         go Absent = tt
 
-    channelled-readable : (own : Bool) (slot : Slot) → Readable nothing [] (channelled (asRules call) s own slot)
+    channelled-readable : Readable nothing [] (channelled (asRules call) s own slot)
     unfolding channelled
-    channelled-readable own slot = go (channelDataOf s)
+    channelled-readable = go (channelDataOf s)
       where
         go : (message : ChannelMessage) → Readable nothing [] (channelledFrom (asRules call) slot own message)
         go (Data number start len) =
@@ -231,10 +230,10 @@ module _ (s : List ℕ) (bytes : Bytes s) where
         → Readable (answerFor call s before after asked) [] (outOf (onAsked call s before asked .change))
     asked-readable Asked.Allocate left = allocate-readable left
     asked-readable Asked.Refresh left = refresh-readable left
-    asked-readable Asked.CreatePermission left = permission-readable _ _
+    asked-readable Asked.CreatePermission left = permission-readable
     asked-readable Asked.ChannelBind left = channel-readable
-    asked-readable Asked.Send left = send-readable _ _
-    asked-readable Asked.ChannelData left = channelled-readable _ _
+    asked-readable Asked.Send left = send-readable
+    asked-readable Asked.ChannelData left = channelled-readable
     asked-readable Asked.Nothing left = tt
 
 -- ---- A peer's datagram

@@ -66,7 +66,7 @@ codeFor call s before ChannelBind =
     channelBindCode (asRules call) s (has place) slot (takenCode (call .time) number peer slot (bindCode (call .time) number peer slot))
 
 -- 'Reply: XOR-RELAYED-ADDRESS 0x0016, LIFETIME, XOR-MAPPED-ADDRESS 0x0020 (the client).', 'Reply: LIFETIME granted.', 'a bare 20-byte header':
--- the port is that of the slot after the call, and LIFETIME the seconds until its expiry
+-- the port is that of the slot after the call, and LIFETIME the seconds until its expiry, 0 where the slot is fresh
 abbrev pub successFor : FromClient → List ℕ → (before after : List Slot) → Method → Message
 successFor call s before after Allocate =
     let allocation = slotIn after (freePlace call before) .allocation in
@@ -75,13 +75,15 @@ successFor call s before after Refresh = RefreshSuccess (transactionId s) (slotI
 successFor call s before after CreatePermission = BareSuccess CreatePermission (transactionId s)
 successFor call s before after ChannelBind = BareSuccess ChannelBind (transactionId s)
 
--- 'An error carries ERROR-CODE', 'A 420 adds UNKNOWN-ATTRIBUTES': the types are the first of an array of 16
-abbrev pub errorFor : Method → List ℕ → ℕ → ReadMessage
-errorFor method s code =
+-- 'UNKNOWN-ATTRIBUTES 0x000A: the first 16 unknown types as met', in an array of 16
+abbrev pub unknownFor : Method → List ℕ → ReadMessage
+unknownFor method s =
     let types = unknownTypes s in
-    pick (eqb code 420)
-    (record { message = UnknownAttributes method (transactionId s) (length types); types = types ++ replicate (16 - length types) 0 })
-    (plain (Error method (transactionId s) code))
+    record { message = UnknownAttributes method (transactionId s) (length types); types = types ++ replicate (16 - length types) 0 }
+
+-- 'An error carries ERROR-CODE', 'A 420 adds UNKNOWN-ATTRIBUTES'
+abbrev pub errorFor : Method → List ℕ → ℕ → ReadMessage
+errorFor method s code = pick (eqb code 420) (unknownFor method s) (plain (Error method (transactionId s) code))
 
 abbrev pub responseFor : FromClient → List ℕ → (before after : List Slot) → Method → ReadMessage
 responseFor call s before after method =
@@ -90,8 +92,8 @@ responseFor call s before after method =
 
 -- ---- Data
 
--- 'If the peer has a live channel, ChannelData ..; else a Data indication .. with XOR-PEER-ADDRESS then DATA': the data is len bytes, behind the
--- header and the address or behind the channel's number and the length
+-- 'If the peer has a live channel, ChannelData ..; else a Data indication 0x0017 with XOR-PEER-ADDRESS then DATA'. The data is len bytes, from
+-- the place on where it stands in each
 abbrev pub relayedFor : FromPeer → ℕ → Slot → Message
 relayedFor call len slot =
     let channel = find (leadsTo (call .time) (call .source)) (slot .channels) in
