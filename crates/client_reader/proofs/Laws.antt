@@ -25,6 +25,7 @@ use Rattle.client_reader.proofs.Ranges.{in-range}
 
 -- ---- What is read was written
 
+-- a reader gives a message or none
 message-or-none : (message : Message) → (message ≡ Nothing) ⊎ (message ≡ Nothing → ⊥)
 message-or-none (AllocateSuccess id relay port seconds client) = inr (λ e. let z : _≡_ {A = ℕ} 0 1 = cc in omega arith)
 message-or-none (RefreshSuccess id seconds) = inr (λ e. let z : _≡_ {A = ℕ} 0 1 = cc in omega arith)
@@ -83,17 +84,22 @@ back s (ChannelData number start len) types is r =
     ∙ no-types (r .3)
 back s Nothing types is r = absurd (is refl)
 
+-- fields in range are read back from the bytes that they make
 pub written-read : (s : List ℕ) (m : ReadMessage) → IsMessage m → InRange m s → written m s ≡ s → readOf s ≡ m
 written-read s m is r w = read-by s (ap fieldsOf (sym w) ∙ back s (m .message) (m .types) is r) w
 
 -- ---- The theorems
+
+-- no bytes are made by two messages
+pub unique : (s : List ℕ) (m n : ReadMessage) → IsMessage m → IsMessage n → InRange m s → InRange n s → written m s ≡ s → written n s ≡ s → m ≡ n
+unique s m n a b p q v w = sym (written-read s m a p v) ∙ written-read s n b q w
 
 -- a message in range is what its own bytes are read as
 pub message-exact : (s : List ℕ) (m : ReadMessage) → IsMessage m → InRange m s → written m s ≡ s → Exact s m
 message-exact s m is r w = record {
   exactly = λ n is-n. (
     λ e. subst (λ (x : ReadMessage). InRange x s × (written x s ≡ s)) e (r, w),
-    λ p. sym (written-read s m is r w) ∙ written-read s n is-n (p .0) (p .1),
+    λ p. unique s m n is is-n r (p .0) w (p .1),
   );
   none = λ never. absurd (never m is r w);
 }
@@ -113,6 +119,7 @@ exact s h = go (sound s h)
     go (inl e) = rw e (nothing-exact s (λ m is r w. is (ap (λ (x : ReadMessage). x .message) (sym (written-read s m is r w) ∙ e))))
     go (inr p) = message-exact s (readOf s) (p .0) (p .1) (p .2)
 
+-- what a function gives that reads so
 pub exact-as : (s : List ℕ) {r : ReadMessage} → Bytes s → r ≡ readOf s → Exact s r
 exact-as s h e = rw e (exact s h)
 
@@ -126,10 +133,6 @@ one-reading s q r x y = go (message-or-none (q .message))
         let never : (m : ReadMessage) → IsMessage m → InRange m s → written m s ≡ s → ⊥ =
         λ m is p w. is (ap (λ (a : ReadMessage). a .message) (sym (x .exactly m is .1 (p, w))) ∙ n) in
         x .none never ∙ sym (y .none never)
-
--- no bytes are made by two messages
-pub unique : (s : List ℕ) (m n : ReadMessage) → IsMessage m → IsMessage n → InRange m s → InRange n s → written m s ≡ s → written n s ≡ s → m ≡ n
-unique s m n a b p q v w = sym (written-read s m a p v) ∙ written-read s n b q w
 
 -- ---- The data is shown byte for byte
 

@@ -1,5 +1,5 @@
 -- What the functions inside the reader promise each other: the fields at their places, and the test that writing them makes the bytes.
--- That this is exact reading is proved in proofs/Laws.antt: no public statement rests on it.
+-- That this is exact reading is proved (`exact` in proofs/Laws.antt), so that no reader needs to believe it.
 use Prim.Native.Nat.{ℕ, zero, suc, _+_, _-_, _*_, _/_}
 use mathlib.Core.Bool.{Bool, true, false}
 use mathlib.Core.List.{List, [], _∷_, _++_}

@@ -55,8 +55,8 @@ use Rattle.relay.specs.Inner.{Ready}
 use Rattle.relay.proofs.Laws.{not-refused, decided-writes}
 use Rattle.client_reader.specs.declared.Message.the-variants as Is
 use Rattle.client_reader.specs.declared.ReadMessage.{ReadMessage}
-use Rattle.client_reader.specs.Fields.{Bytes, IdFits, AddressFits, IsBare, IsMessage, InRange, written, dataOf, plain, nothing}
-use Rattle.client_reader.proofs.Laws.{written-read, message-exact, indication-within, indication-data, channel-within, channel-data}
+use Rattle.client_reader.specs.Fields.{Bytes, IdFits, AddressFits, IsBare, IsMessage, InRange, written, dataOf, plain, nothing, Exact}
+use Rattle.client_reader.proofs.Laws.{written-read, message-exact, one-reading, indication-within, indication-data, channel-within, channel-data}
 use Rattle.history.specs.Events.{CallFits, TransportFits, Arrival, acts}
 use Rattle.history.specs.ReadBack.{ownPlace, freePlace, slotIn, unknownFor, errorFor, responseFor, relayedFor, answerFor, fieldsFor, dataFor, ReadAs, ReadBack}
 use Rattle.history.proofs.Tests.{find-some, leads-is}
@@ -343,7 +343,11 @@ read-back before after a reply′ C n d = rw (d .state-is, d .reply-is) (go (act
     go (refuse number) r e = let z : _≡_ {A = ℕ} 0 1 = cc in let y : ⊥ = omega arith in absurd y
     go (accept next out) r e = sent-readable _ _ out (a .reply) C n r e
 
--- no other fields make it: what is read is what was put in
-pub only-fields : {fields : ReadMessage} {payload message : List ℕ} → ReadAs fields payload message → (m : ReadMessage) → IsMessage m → InRange m message
-    → written m message ≡ message → m ≡ fields
-only-fields r m is h w = sym (r .exact .exactly m is .1 (h, w))
+module _ {fields : ReadMessage} {payload message : List ℕ} (back : ReadAs fields payload message) where
+  -- no other fields make the message
+  pub only-fields : (m : ReadMessage) → IsMessage m → InRange m message → written m message ≡ message → m ≡ fields
+  only-fields m is h w = sym (back .exact .exactly m is .1 (h, w))
+
+  -- what `read_message` gives of it, by its promise
+  pub reader-gives : (r : ReadMessage) → Exact message r → r ≡ fields
+  reader-gives r x = one-reading message r fields x (back .exact)

@@ -1,4 +1,4 @@
 pub mod Counted
 pub mod Events
-pub mod Statement
 pub mod ReadBack
+pub mod Statement
