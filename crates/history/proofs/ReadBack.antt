@@ -41,8 +41,7 @@ use Rattle.rules.specs.Data.{permitted, sentFrom, send, channelledFrom, channel
 use Rattle.rules.specs.declared.client.Asked.{Asked}
 use Rattle.rules.specs.declared.client.Asked.the-variants as Asked
 use Rattle.rules.specs.Client.{askedBy}
-use Rattle.rules.proofs.Accepted.{granted-range, granted-refresh-range}
-use Rattle.rules.proofs.Laws.{kept-not-written}
+use Rattle.rules.proofs.Laws.{kept-not-written, granted-small, granted-refresh-small}
 use Rattle.relay.specs.declared.incoming.Call.{Call}
 use Rattle.relay.specs.declared.incoming.Call.the-variants.{Client, Peer}
 use Rattle.relay.specs.declared.incoming.FromClient.{FromClient}
@@ -166,35 +165,32 @@ module _ (s : List ℕ) (bytes : Bytes s) where
       go false e = error-message-back method code h (eqb-false code 0 e)
 
   module _ (call : FromClient) (fits : CallFits (Client call)) (before after : List Slot) where
-    allocate-readable : Left before after (freePlace call before) (allocate (asRules call) s (surveyOf call before))
-        → Readable (responseFor call s before after Allocate) [] (outOf (allocate (asRules call) s (surveyOf call before)))
-    unfolding allocate allocated
-    allocate-readable left =
-        respond-back _ _ _ _ _ (allocate-coded s (asRules call) (surveyOf call before)) (λ e.
-        let range = granted-range (lifetime s) in
-        let made = left .wrote _ _ (answered-by _ _ _ _ e) in
-        let port : slotIn after (freePlace call before) .allocation .port ≡ surveyOf call before .port = rw made refl in
-        let seconds : slotIn after (freePlace call before) .allocation .expiry - call .time ≡ granted (lifetime s) = rw made (omega arith) in
-        allocate-back (transactionId s) (id-fits s bytes) _ _ _ _ (fits .0) (port-fits _ _) (omega arith) (fits .1) port seconds)
-
     abbrev own : Bool
     own = has (ownPlace call before)
 
     abbrev slot : Slot
     slot = slotIn before (ownPlace call before)
 
+    allocate-readable : Left before after (freePlace call before) (allocate (asRules call) s (surveyOf call before))
+        → Readable (responseFor call s before after Allocate) [] (outOf (allocate (asRules call) s (surveyOf call before)))
+    unfolding allocate allocated
+    allocate-readable left =
+        respond-back _ _ _ _ _ (allocate-coded s (asRules call) (surveyOf call before)) (λ e.
+        let small = granted-small (lifetime s) in
+        let made = left .wrote _ _ (answered-by _ _ _ _ e) in
+        let port : slotIn after (freePlace call before) .allocation .port ≡ surveyOf call before .port = rw made refl in
+        let seconds : slotIn after (freePlace call before) .allocation .expiry - call .time ≡ granted (lifetime s) = rw made (omega arith) in
+        allocate-back (transactionId s) (id-fits s bytes) _ _ _ _ (fits .0) (port-fits _ _) (omega arith) (fits .1) port seconds)
+
     refresh-readable : Left before after (ownPlace call before) (refresh (asRules call) s own slot)
         → Readable (responseFor call s before after Refresh) [] (outOf (refresh (asRules call) s own slot))
     unfolding refresh
     refresh-readable left =
         respond-back _ _ _ _ _ (refresh-coded s (asRules call) _ _) (λ e.
+        let small = granted-refresh-small (lifetime s) in
         let made = left .wrote _ _ (answered-by _ _ _ _ e) in
-        refresh-back (transactionId s) (id-fits s bytes) _ (small (granted-refresh-range (lifetime s)))
+        refresh-back (transactionId s) (id-fits s bytes) _ (omega arith)
         (until-expiry (call .time) (grantedRefresh (lifetime s)) slot made))
-      where
-        small : (grantedRefresh (lifetime s) ≡ 0) ⊎ ((600 ≤ grantedRefresh (lifetime s)) × (grantedRefresh (lifetime s) ≤ 3600)) → grantedRefresh (lifetime s) < 2 ^ 32
-        small (inl z) = omega arith
-        small (inr z) = omega arith
 
     permission-readable : Readable (responseFor call s before after CreatePermission) [] (outOf (createPermission (asRules call) s own slot))
     unfolding createPermission
@@ -294,18 +290,21 @@ abbrev ReadableAct : Call → List ℕ → List Slot → Act → Type 0
 ReadableAct call s before (refuse number) = Unit
 ReadableAct call s before (accept next out) = Readable (fieldsFor call s before (next .slots)) (dataFor call s) out
 
+left-kept : (slots : List Slot) (place : Found) (out : Out) → Left slots slots place (keep out)
+left-kept slots place out = record { wrote = λ slot out e. kept-not-written e; kept = λ out e. refl }
+
 done-readable : (call : Call) (s : List ℕ) (st : State) (place : Found) (change : Change) → Within place (length (st .slots))
     → ((slot : Slot) (out : Out) → change ≡ write slot out → has place ≡ true)
     → ((after : List Slot) → Left (st .slots) after place change → Readable (fieldsFor call s (st .slots) after) (dataFor call s) (outOf change))
     → ReadableAct call s (st .slots) (done st place change)
 unfolding atOr
-done-readable call s st (At k) (keep out) w h f = f (st .slots) (record { wrote = λ slot out e. kept-not-written e; kept = λ out e. refl })
+done-readable call s st (At k) (keep out) w h f = f (st .slots) (left-kept (st .slots) (At k) out)
 done-readable call s st (At k) (write slot out) w h f =
     f (set (st .slots) k slot) (record {
       wrote = λ other out e. getD-set-same (st .slots) k slot freshSlot w ∙ ap (slotAfter freshSlot) e;
       kept = λ out e. kept-not-written (sym e);
     })
-done-readable call s st Nothing (keep out) w h f = f (st .slots) (record { wrote = λ slot out e. kept-not-written e; kept = λ out e. refl })
+done-readable call s st Nothing (keep out) w h f = f (st .slots) (left-kept (st .slots) Nothing out)
 done-readable call s st Nothing (write slot out) w h f = absurd (false≢true (h slot out refl))
 
 act-readable : (st : State) (a : Arrival) → ReadableAct (a .call) (a .datagram) (st .slots) (acts st a)
