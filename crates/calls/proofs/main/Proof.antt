@@ -69,7 +69,7 @@ module _ {M : Type 1} (𝓤 : URA M) (H : Heap 𝓤) (A : Atoms 𝓤) (W : Given
         (no-more !) (λ r-fresh-bookkeeping is-fresh-bookkeeping e-fresh-bookkeeping. land ! (from ! (stop !)) (init ! 22 refl (bookkeeping-typed 𝓤 H A W r-fresh-bookkeeping is-fresh-bookkeeping)) $
         assigns ! (of-opd ! (load ! (from ! (stop !)) (look ! 22 refl))) (from ! (stop !)) (init ! 30 refl (bookkeeping-typed 𝓤 H A W r-fresh-bookkeeping is-fresh-bookkeeping)) $
         assigns ! (repeats ! (uint-row w8) 65536 0 (lit ! tt)) (from ! (stop !)) (init ! 28 refl ((array-row (uint-row w8) 65536) .lawful 𝓤 H A W .typed (replicate 65536 0) _ (is-repeat (uint-row w8) 65536 0 (refl, lit< tt)) .0)) $
-        assigns ! (repeats ! (uint-row w8) 4096 0 (lit ! tt)) (from ! (stop !)) (init ! 26 refl ((array-row (uint-row w8) 4096) .lawful 𝓤 H A W .typed (replicate 4096 0) _ (is-repeat (uint-row w8) 4096 0 (refl, lit< tt)) .0)) $
+        assigns ! (repeats ! (uint-row w8) 36864 0 (lit ! tt)) (from ! (stop !)) (init ! 26 refl ((array-row (uint-row w8) 36864) .lawful 𝓤 H A W .typed (replicate 36864 0) _ (is-repeat (uint-row w8) 36864 0 (refl, lit< tt)) .0)) $
         assigns ! (addr ! (from ! (stop !))) (from ! (stop !)) (init ! 20 refl (tt, tt)) $
         assigns ! (agg ! (and-then ! (load ! (from ! (stop !)) (look ! 20 refl)) (and-then ! (lit ! tt) (no-more !)))) (from ! (stop !)) (init ! 18 refl (tt, (tt, (record { fits = lit< tt }, tt)))) $
         assigns ! (addr ! (from ! (stop !))) (from ! (stop !)) (init ! 16 refl (tt, tt)) $
@@ -78,12 +78,12 @@ module _ {M : Type 1} (𝓤 : URA M) (H : Heap 𝓤) (A : Atoms 𝓤) (W : Given
         assigns ! (addr ! (from ! (stop !))) (from ! (stop !)) (init ! 10 refl (tt, tt)) $
         assigns ! (agg ! (and-then ! (load ! (from ! (stop !)) (look ! 10 refl)) (and-then ! (big-lit ! (lit< tt)) (no-more !)))) (from ! (stop !)) (init ! 8 refl (tt, (tt, (record { fits = lit< tt }, tt)))) $
         -- `serve`
-        lend-array-at ! 26 tt (uint-row w8) tt 4096 (named 3) (replicate 4096 0) (is-repeat (uint-row w8) 4096 0 (refl, lit< tt)) (lit< tt, lit< tt) l₅ 0 refl (λ ν-serve-output δ-serve-output len-serve-output.
+        lend-array-at ! 26 tt (uint-row w8) tt 36864 (named 3) (replicate 36864 0) (is-repeat (uint-row w8) 36864 0 (refl, lit< tt)) (lit< tt, lit< tt) l₅ 0 refl (λ ν-serve-output δ-serve-output len-serve-output.
         lend-array-at ! 30 tt (uint-row w8) tt 65536 (named 2) (replicate 65536 0) (is-repeat (uint-row w8) 65536 0 (refl, lit< tt)) (lit< tt, lit< tt) l₄ 0 refl (λ ν-serve-input δ-serve-input len-serve-input.
         lend-local-at ! 34 tt bookkeeping-row tt (named 1) r-fresh-bookkeeping is-fresh-bookkeeping l₃ 0 refl (λ ν-serve-bookkeeping δ-serve-bookkeeping.
         lend-array-at ! 38 tt slot-row tt 64 (named 0) (replicate 64 r-fresh-slot) (is-repeat slot-row 64 r-fresh-slot is-fresh-slot) (lit< tt, lit< tt) l₂ 0 refl (λ ν-serve-slots δ-serve-slots len-serve-slots.
         nothing ! $ move ! (8 ∷ 0 ∷ []) $ join ! $ move ! (6 ∷ 0 ∷ []) $ join ! $ move ! (4 ∷ 0 ∷ []) $ join ! $ move ! (2 ∷ 0 ∷ []) $ join ! $ nothing ! $ move ! (5 ∷ 0 ∷ []) $ fjoin ! $ move ! (4 ∷ 0 ∷ []) $ fjoin ! $ move ! (3 ∷ 0 ∷ []) $ fjoin ! $ move ! (2 ∷ 0 ∷ []) $ fjoin ! $ move ! (1 ∷ 0 ∷ []) $
-        calls-any ! fm serve.ended (serve.clauses 𝓤 H A mem run) (ν-serve-slots ∷ [], (ν-serve-bookkeeping ∷ [], (ν-serve-input ∷ [], (ν-serve-output ∷ [], tt)))) (fullShare, (fullShare, (fullShare, (fullShare, tt)))) tt bool-row (ref l₂ 0 δ-serve-slots (replicate 64 r-fresh-slot), (ref l₃ 0 δ-serve-bookkeeping r-fresh-bookkeeping, (ref l₄ 0 δ-serve-input (replicate 65536 0), (ref l₅ 0 δ-serve-output (replicate 4096 0), tt)))) (sliceVal (l₂, 0) 64 ∷ [], (vptr l₃ 0 ∷ [], (sliceVal (l₄, 0) 65536 ∷ [], (sliceVal (l₅, 0) 4096 ∷ [], tt)))) tt (λ r ws. Unit {0}) known-serve (asks-none 𝓤 H A) (λ r ws. tells-none 𝓤)
+        calls-any ! fm serve.ended (serve.clauses 𝓤 H A mem run) (ν-serve-slots ∷ [], (ν-serve-bookkeeping ∷ [], (ν-serve-input ∷ [], (ν-serve-output ∷ [], tt)))) (fullShare, (fullShare, (fullShare, (fullShare, tt)))) tt bool-row (ref l₂ 0 δ-serve-slots (replicate 64 r-fresh-slot), (ref l₃ 0 δ-serve-bookkeeping r-fresh-bookkeeping, (ref l₄ 0 δ-serve-input (replicate 65536 0), (ref l₅ 0 δ-serve-output (replicate 36864 0), tt)))) (sliceVal (l₂, 0) 64 ∷ [], (vptr l₃ 0 ∷ [], (sliceVal (l₄, 0) 65536 ∷ [], (sliceVal (l₅, 0) 36864 ∷ [], tt)))) tt (λ r ws. Unit {0}) known-serve (asks-none 𝓤 H A) (λ r ws. tells-none 𝓤)
         (and-then ! (load ! (from ! (stop !)) (look ! 19 refl)) (and-then ! (load ! (from ! (stop !)) (look ! 17 refl)) (and-then ! (load ! (from ! (stop !)) (look ! 13 refl)) (and-then ! (load ! (from ! (stop !)) (look ! 9 refl)) (no-more !))))) (λ r-serve ws-serve is-serve e-serve.
         split ! $ move ! (1 ∷ []) $ split ! $ move ! (1 ∷ []) $ split ! $ move ! (1 ∷ []) $ split ! $ move ! (1 ∷ []) $ drop ! $ move ! (4 ∷ []) $ fsplit ! $ fsplit ! $ move ! (1 ∷ []) $ feqL ! (λ l-serve-slots. move ! (0 ∷ 5 ∷ []) $
         back-array-at ! 36 tt slot-row tt 64 (ws-serve .0) l₂ 0 refl (λ back-serve-slots.
@@ -92,7 +92,7 @@ module _ {M : Type 1} (𝓤 : URA M) (H : Heap 𝓤) (A : Atoms 𝓤) (W : Given
         fsplit ! $ fsplit ! $ move ! (1 ∷ []) $ feqL ! (λ l-serve-input. move ! (0 ∷ 3 ∷ []) $
         back-array-at ! 30 tt (uint-row w8) tt 65536 (ws-serve .1 .1 .0) l₄ 0 refl (λ back-serve-input.
         fsplit ! $ fsplit ! $ move ! (1 ∷ []) $ feqL ! (λ l-serve-output. move ! (0 ∷ 2 ∷ []) $
-        back-array-at ! 27 tt (uint-row w8) tt 4096 (ws-serve .1 .1 .1 .0) l₅ 0 refl (λ back-serve-output.
+        back-array-at ! 27 tt (uint-row w8) tt 36864 (ws-serve .1 .1 .1 .0) l₅ 0 refl (λ back-serve-output.
         drop ! $
         land ! (from ! (stop !)) (init ! 24 refl (tt, tt)) $
         assigns ! (addr ! (from ! (stop !))) (from ! (stop !)) (init ! 4 refl (tt, tt)) $
