@@ -13,9 +13,11 @@ use table::Slot;
 use table::fresh_slot;
 ghost use Prim.Native.Nat.{_+_, _<_, _≤_};
 ghost use lib.Dec.{leb};
-ghost use lib.ListN.{length};
+ghost use lib.ListN.{length, drop};
+ghost use mathlib.Core.List.{_++_};
 ghost use mathlib.Core.Path.{_≡_};
 ghost use Rattle.bytes.specs.Bytes.{indexOf, slice};
+ghost use Rattle.listing.specs.Listing.{listing, lengthOf};
 
 // One byte more than a line may have: of a longer line no more is kept.
 const KEPT: usize = 3201;
@@ -287,22 +289,36 @@ fn serve(
     is_end(window)
 }
 
-// How much of the listing is written: none where an answer couldn't be.
-fn shown_of(listed: Listed, is_served: bool) -> usize {
-    if !is_served {
-        return 0;
-    }
+fn length_of(listed: Listed) -> usize
+    ensures { λ r. ⌜ r ≡ lengthOf listed ⌝ }
+{
     match listed {
         Listed::Refused(_) => 0,
         Listed::Length(n) => n,
     }
 }
 
-// The listing at the end. A slot has at most 1,154 characters (114 of `A`, eight times 59 of `P` and 71 of `C`): all of them have room.
-fn write_listing(slots: &[Slot], clock: u64, is_served: bool) {
-    let mut text = [0u8; 131072];
-    let listed = list(slots, clock, &mut text);
-    write_front(&text, shown_of(listed, is_served));
+// The whole listing, at the front of the text, which has room for every listing; how long it is.
+fn whole_listing(slots: &[Slot], clock: u64, text: &mut [u8]) -> usize
+    requires { ⌜ (length (now slots) ≡ 64) × (73856 ≤ length (now text)) ⌝ }
+    ensures { λ r. ⌜ (r ≡ length (listing clock (now (slots .entry)))) × (now (text .exit) ≡ listing clock (now (slots .entry)) ++ drop (length (listing clock (now (slots .entry)))) (now (text .entry))) ⌝ }
+{
+    let listed = list(slots, clock, text);
+    length_of(listed)
+}
+
+// How much of the listing is written: none where an answer couldn't be.
+fn shown_of(length: usize, is_served: bool) -> usize {
+    if is_served { length } else { 0 }
+}
+
+// The listing at the end.
+fn write_listing(slots: &[Slot], clock: u64, is_served: bool)
+    requires { ⌜ length (now slots) ≡ 64 ⌝ }
+{
+    let mut text = [0u8; 73856];
+    let size = whole_listing(slots, clock, &mut text);
+    write_front(&text, shown_of(size, is_served));
 }
 
 fn main() {

@@ -1,5 +1,5 @@
 -- Document 01's 'Listing and the call program': the listing as text.
-use Prim.Native.Nat.{ℕ}
+use Prim.Native.Nat.{ℕ, _≤_}
 use mathlib.Core.Path.{_≡_}
 use mathlib.Core.List.{List, [], _∷_, _++_}
 use lib.Dec.{eqb, leb}
@@ -55,7 +55,8 @@ unfoldable pub listing : ℕ → List Slot → List ℕ
 listing clock slots = texts (slotLines clock) 0 slots
 
 -- what a listing answers, and the output after it: refusal 6 where there aren't 64 slots, then 8 where the output is shorter than the
--- listing, with the output as it was; else the length, and the listing at the front of the output
+-- listing, with the output as it was; else the length, and the listing at the front of the output. 64 slots have at most 73,856 characters,
+-- 1,154 each: 114 of an `A` line, and eight times 59 of a `P` line and 71 of a `C` line
 pub record Lists (clock : ℕ) (slots : List Slot) (before after : List ℕ) (answer : Listed) : Type 0 where
   pub answers : answer
       ≡ pick (eqb (length slots) 64)
@@ -65,6 +66,12 @@ pub record Lists (clock : ℕ) (slots : List Slot) (before after : List ℕ) (an
       ≡ pick (eqb (length slots) 64)
       (pick (leb (length (listing clock slots)) (length before)) (listing clock slots ++ drop (length (listing clock slots)) before) before)
       before
+  pub most : length slots ≡ 64 → length (listing clock slots) ≤ 73856
+
+-- the length that is answered, and 0 where it is refused
+abbrev pub lengthOf : Listed → ℕ
+lengthOf (Refused number) = 0
+lengthOf (Length n) = n
 
 -- ---- The fields that the writers cut a line into: its letter and its newline, and each field with the tab before it
 

@@ -18,7 +18,7 @@ pub enum Field {
     Nothing,
 }
 
-pub fn allocation_fields(k: usize, allocation: Allocation) -> [Field; 10]
+pub(crate) fn allocation_fields(k: usize, allocation: Allocation) -> [Field; 10]
     ensures { λ r. ⌜ fieldsText r ≡ allocationLine k allocation ⌝ }
 {
     let five_tuple = allocation.five_tuple;
@@ -40,7 +40,7 @@ pub fn allocation_fields(k: usize, allocation: Allocation) -> [Field; 10]
     ]
 }
 
-pub fn permission_fields(clock: u64, k: usize, permission: Permission) -> [Field; 10]
+pub(crate) fn permission_fields(clock: u64, k: usize, permission: Permission) -> [Field; 10]
     ensures { λ r. ⌜ fieldsText r ≡ permissionLine clock k permission ⌝ }
 {
     let mut fields = [Field::Nothing; 10];
@@ -56,7 +56,7 @@ pub fn permission_fields(clock: u64, k: usize, permission: Permission) -> [Field
     fields
 }
 
-pub fn channel_fields(clock: u64, k: usize, channel: Channel) -> [Field; 10]
+pub(crate) fn channel_fields(clock: u64, k: usize, channel: Channel) -> [Field; 10]
     ensures { λ r. ⌜ fieldsText r ≡ channelLine clock k channel ⌝ }
 {
     let mut fields = [Field::Nothing; 10];

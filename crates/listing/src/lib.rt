@@ -24,7 +24,7 @@ pub enum Listed {
 // The first pass.
 fn text_size(slots: &[Slot], clock: u64) -> usize
     requires { ⌜ length (now slots) ≡ 64 ⌝ }
-    ensures { λ r. ⌜ r ≡ length (listing clock (now (slots .entry))) ⌝ }
+    ensures { λ r. ⌜ (r ≡ length (listing clock (now (slots .entry)))) × (r ≤ 73856) ⌝ }
 {
     let mut size: usize = 0;
     let mut i: usize = 0;

@@ -114,7 +114,7 @@ fn put_channels(
     next
 }
 
-pub fn put_slot(output: &mut [u8], place: usize, clock: u64, k: usize, slot: Slot) -> usize
+pub(crate) fn put_slot(output: &mut [u8], place: usize, clock: u64, k: usize, slot: Slot) -> usize
     requires { ⌜ place + length (slotLines clock k slot) ≤ length (now output) ⌝ }
     ensures { λ r. ⌜ Put (slotLines clock k slot) place (now (output .entry)) (now (output .exit)) r ⌝ }
 {

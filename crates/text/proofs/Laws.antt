@@ -157,7 +157,7 @@ unfolding decimalSize sizeWithin
 size-more zero h = omega arith
 size-more (suc n) h = rw (le-ltb (suc n) 10 h) (ap suc (size-within n (suc n / 10) (suc n / 10) (omega arith) (omega arith)))
 
-size-le : (k n : ℕ) → n < 10 ^ suc k → decimalSize n ≤ suc k
+pub size-le : (k n : ℕ) → n < 10 ^ suc k → decimalSize n ≤ suc k
 size-le zero n h = rw (size-small n h) (lit≤ tt)
 size-le (suc k) n h = either n 10
     (λ l. rw (size-small n l) (omega arith))

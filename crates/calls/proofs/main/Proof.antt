@@ -1,6 +1,6 @@
 -- `calls::main` meets its contract: a walk of its MIR, made by tools/rewalk.
 use Rattle.walk.proofs.Pre.{ftrue, SProp, ent, emp, via, fst∗, id⊢, Lfts, Shares, Fun, givenOf, tables, u64, Is, Nothing, Boolean, owns, sliceVal, owned, nothing, onEntry, Args, Vals, Triple, cited, says, Stays, walkOf, ends-at, walked, Atoms, fullShare, URA, lit<, replicate, [], _∷_, refl, named, w64, w8, Val, vunit, vint, vptr, vbool, Memory, Routine, Heap, Calls, Loops, WpFn, FmC, Given, feqL, ‵, ⋆, _$_, _∵_, !, qed, by, move, drop, split, join, fsplit, fjoin, suffices, frame, done, whole, sub, look-in, agg, look, init, stop, fld, from, load, lit, unit-lit, of-opd, assigns, returns, enter, alloc1, alloc0, params1, pass0, free0, and-then, no-more, land, addr}
-use Rattle.walk.proofs.Walk.{uint-row, unit-row, bool-row, ref, asks-none, array-row, is-repeat, repeats, big-lit, Of, calls-any, calls-value, out, tells-none, says-none, framed-calls, finish}
+use Rattle.walk.proofs.Walk.{uint-row, unit-row, bool-row, ref, shown, asks-none, array-row, is-repeat, repeats, big-lit, Of, calls-any, calls-value, out, tells-none, says-none, framed-calls, finish}
 use Rattle.walk.proofs.Lends.{lend-local-at, back-local-at, lend-array-at, back-array-at, show-array-at, hide-array-at}
 use denote.Struct.Laws as SL
 use Rattle.relay.proofs.Rows.{bookkeeping-row, bookkeeping-typed}
@@ -101,7 +101,7 @@ module _ {M : Type 1} (𝓤 : URA M) (H : Heap 𝓤) (A : Atoms 𝓤) (W : Given
         -- `write_listing`
         show-array-at ! 32 tt slot-row tt 64 (named 0) (ws-serve .0) back-serve-slots (lit< tt, lit< tt) l₂ 0 refl (λ ν-write-listing-slots δ-write-listing-slots len-write-listing-slots.
         nothing ! $ move ! (2 ∷ 0 ∷ []) $ join ! $ nothing ! $ owned ! Boolean (Is Boolean) (bool-row .makes 𝓤 H A W) r-serve _ refl $ fjoin ! $ owned ! u64 (Is u64) ((uint-row w64) .makes 𝓤 H A W) ((ws-serve .1 .0) .clock) _ (refl, SL.owed Bookkeeping-t.the-type Bookkeeping-l.the-laws (ws-serve .1 .0) _ back-serve-bookkeeping .0 .1) $ fjoin ! $ move ! (2 ∷ 0 ∷ []) $ fjoin ! $ move ! (1 ∷ 0 ∷ []) $
-        calls-any ! fm write-listing.ended (write-listing.clauses 𝓤 H A mem run) (ν-write-listing-slots ∷ [], tt) (fullShare, tt) tt unit-row (ref l₂ 0 δ-write-listing-slots (ws-serve .0), (((ws-serve .1 .0) .clock), (r-serve, tt))) (sliceVal (l₂, 0) 64 ∷ [], (vint w64 ((ws-serve .1 .0) .clock) ∷ [], (vbool r-serve ∷ [], tt))) tt (λ r ws. Unit {0}) known-write-listing (asks-none 𝓤 H A) (λ r ws. tells-none 𝓤)
+        calls-any ! fm write-listing.ended (write-listing.clauses 𝓤 H A mem run) (ν-write-listing-slots ∷ [], tt) (fullShare, tt) tt unit-row (ref l₂ 0 δ-write-listing-slots (ws-serve .0), (((ws-serve .1 .0) .clock), (r-serve, tt))) (sliceVal (l₂, 0) 64 ∷ [], (vint w64 ((ws-serve .1 .0) .clock) ∷ [], (vbool r-serve ∷ [], tt))) tt (λ r ws. Unit {0}) known-write-listing (shown 𝓤 H A len-write-listing-slots) (λ r ws. tells-none 𝓤)
         (and-then ! (load ! (from ! (stop !)) (look ! 3 refl)) (and-then ! (load ! (from ! (stop !)) (look ! 1 refl)) (and-then ! (load ! (from ! (stop !)) (look ! 25 refl)) (no-more !)))) (λ r-write-listing ws-write-listing is-write-listing e-write-listing.
         split ! $ move ! (1 ∷ []) $ drop ! $ move ! (1 ∷ []) $ fsplit ! $ drop ! $ move ! (1 ∷ []) $
         hide-array-at ! 33 tt slot-row tt 64 (ws-serve .0) l₂ 0 refl len-write-listing-slots (λ back-write-listing-slots.

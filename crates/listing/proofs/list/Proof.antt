@@ -111,7 +111,7 @@ module _ {M : Type 1} (𝓤 : URA M) (H : Heap 𝓤) (A : Atoms 𝓤) (W : Given
         -- `write_lines`
         move ! (2 ∷ 3 ∷ []) $
         move ! (2 ∷ 3 ∷ []) $
-        calls-both ! fm Slot-t.the-row u8 unit-row (write-lines.clauses 𝓤 H A mem run) (λ r zs. _) (named 0) (a .0 .ptr .0) (a .0 .ptr .1) slots (sliceVal (a .0 .ptr) (length slots)) (named 1) (a .1 .1 .0 .ptr .0) (a .1 .1 .0 .ptr .1) output (sliceVal (a .1 .1 .0 .ptr) (length output)) (λ ν. (clock, tt)) (λ ν. (uint-row w64, tt)) (λ ν δ. tt) known-write-lines (λ ν. ((refl, g-clock), tt)) (λ ν δ. (shown 𝓤 H A (subst (λ (m : ℕ). m ≤ length output) e-text-size fits))) (λ ν δ r ws. id⊢ 𝓤 _)
+        calls-both ! fm Slot-t.the-row u8 unit-row (write-lines.clauses 𝓤 H A mem run) (λ r zs. _) (named 0) (a .0 .ptr .0) (a .0 .ptr .1) slots (sliceVal (a .0 .ptr) (length slots)) (named 1) (a .1 .1 .0 .ptr .0) (a .1 .1 .0 .ptr .1) output (sliceVal (a .1 .1 .0 .ptr) (length output)) (λ ν. (clock, tt)) (λ ν. (uint-row w64, tt)) (λ ν δ. tt) known-write-lines (λ ν. ((refl, g-clock), tt)) (λ ν δ. (shown 𝓤 H A (subst (λ (m : ℕ). m ≤ length output) (e-text-size .0) fits))) (λ ν δ r ws. id⊢ 𝓤 _)
         (λ ν δ. (and-then ! (load ! (from ! (stop !)) (look ! 22 refl)) (and-then ! (load ! (from ! (stop !)) (look ! 4 refl)) (and-then ! (load ! (from ! (stop !)) (look ! 20 refl)) (no-more !))))) (λ r-write-lines zs-write-lines l-write-lines is-write-lines e-write-lines. land ! (from ! (stop !)) (init ! 8 refl (tt, tt)) $
         assigns ! (agg ! (and-then ! (lit ! tt) (and-then ! (load ! (from ! (stop !)) (look ! 14 refl)) (no-more !)))) (from ! (stop !)) (init ! 24 refl (listed-typed 𝓤 H A W (Length r-text-size) (EL.owes Listed-t.the-type Listed-l.the-laws (Length r-text-size) ((refl, is-text-size .1), tt)))) $
         returns ! (look ! 24 refl) $ out ! 24 refl refl $ out ! 22 refl refl $ out ! 20 refl refl $ out ! 18 refl refl $ out ! 16 refl refl $ out ! 14 refl refl $ out ! 12 refl refl $ out ! 10 refl refl $ out ! 8 refl refl $ out ! 6 refl refl $ out ! 4 refl refl $ free0 ! $

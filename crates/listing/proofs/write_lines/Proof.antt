@@ -16,7 +16,7 @@ use Rattle.listing.proofs.puts.put_slot.Symbol.{name as #listing·put-s
 use Rattle.listing.proofs.puts.put_slot.Met as put-slot-thm
 use Rattle.table.specs.Table.{freshSlot}
 use Rattle.listing.specs.Listing.{slotLines, listing}
-use Rattle.listing.proofs.Laws.{Putting, putting-next, listing-start, listing-fits, listing-put}
+use Rattle.listing.proofs.Laws.{Putting, putting-next, listing-start, lines-fit, listing-put}
 use Rattle.listing.proofs.write_lines.Key.{name as #listing·write-lines}
 use Rattle.listing.proofs.write_lines as write-lines
 use Rattle.listing.proofs.write_lines.Statement as stated
@@ -102,7 +102,7 @@ module _ {M : Type 1} (𝓤 : URA M) (H : Heap 𝓤) (A : Atoms 𝓤) (W : Given
         assigns ! (agg ! (and-then ! (load ! (from ! (stop !)) (look ! 6 refl)) (and-then ! (load ! (from ! (fld ! refl (stop !))) (look-in ! 20 (sub ! 1 refl (whole !)))) (no-more !)))) (from ! (stop !)) (init ! 4 refl (tt, (tt, (record { fits = room-output .0 }, tt)))) $
         -- `put_slot`
         move ! (2 ∷ 3 ∷ []) $
-        calls-lent ! fm u8 (uint-row w64) (put-slot.clauses 𝓤 H A mem run) (λ r zs. _) (named 1) (a .1 .0 .ptr .0) (a .1 .0 .ptr .1) (x .2) (sliceVal (a .1 .0 .ptr) (length output)) (λ ν. ((x .0), (clock, ((x .1), (r-slot-at, tt))))) (λ ν. (uint-row w64, (uint-row w64, (uint-row w64, (slot-row, tt))))) (λ ν δ. tt) known-put-slot (λ ν. ((refl, (x .3 .0)), ((refl, g-clock), ((refl, (x .3 .1 .0)), (is-slot-at, tt))))) (λ ν δ. (shown 𝓤 H A (listing-fits clock (x .3 .1 .1 .1) r-slot-at within e-slot-at asked))) (λ ν δ r ws. id⊢ 𝓤 _)
+        calls-lent ! fm u8 (uint-row w64) (put-slot.clauses 𝓤 H A mem run) (λ r zs. _) (named 1) (a .1 .0 .ptr .0) (a .1 .0 .ptr .1) (x .2) (sliceVal (a .1 .0 .ptr) (length output)) (λ ν. ((x .0), (clock, ((x .1), (r-slot-at, tt))))) (λ ν. (uint-row w64, (uint-row w64, (uint-row w64, (slot-row, tt))))) (λ ν δ. tt) known-put-slot (λ ν. ((refl, (x .3 .0)), ((refl, g-clock), ((refl, (x .3 .1 .0)), (is-slot-at, tt))))) (λ ν δ. (shown 𝓤 H A (lines-fit clock (x .3 .1 .1 .1) r-slot-at within e-slot-at asked))) (λ ν δ r ws. id⊢ 𝓤 _)
         (λ ν δ. (and-then ! (load ! (from ! (stop !)) (look ! 4 refl)) (and-then ! (load ! (from ! (stop !)) (look ! 16 refl)) (and-then ! (load ! (from ! (stop !)) (look ! 18 refl)) (and-then ! (load ! (from ! (stop !)) (look ! 14 refl)) (and-then ! (load ! (from ! (stop !)) (look ! 12 refl)) (no-more !))))))) (λ r-put-slot zs-put-slot l-put-slot is-put-slot e-put-slot. land ! (from ! (stop !)) (store ! 16 refl (tt, record { fits = is-put-slot .1 })) $
         assigns-last ! (bin ! (load ! (from ! (stop !)) (look ! 14 refl)) (lit ! tt) (record { fits = fits′ })) (from ! (stop !)) (store ! 14 refl (tt, record { fits = fits′ })) $
         forget ! 4 refl $ forget ! 6 refl $ forget ! 8 refl $ forget ! 10 refl $ forget ! 12 refl $
