@@ -12,10 +12,11 @@ use script::run_line;
 use table::Slot;
 use table::fresh_slot;
 ghost use Prim.Native.Nat.{_+_, _<_, _≤_};
-ghost use lib.Dec.{leb};
+ghost use lib.Dec.{eqb, leb};
 ghost use lib.ListN.{length, drop};
 ghost use mathlib.Core.List.{_++_};
 ghost use mathlib.Core.Path.{_≡_};
+ghost use Rattle.choice.specs.Choice.{pick};
 ghost use Rattle.bytes.specs.Bytes.{indexOf, slice};
 ghost use Rattle.listing.specs.Listing.{listing, lengthOf};
 
@@ -60,6 +61,20 @@ fn lost_window() -> Window {
     }
 }
 
+// The line that ends with the newline at that place.
+fn whole_line(start: usize, newline: usize, end: usize, gathered: usize) -> Window
+    requires { ⌜ newline < end ⌝ }
+{
+    Window {
+        start,
+        line_end: newline,
+        next: newline + 1,
+        end,
+        gathered,
+        is_line: true,
+    }
+}
+
 // Copies n bytes to another place of the buffer: to its front, or to where they aren't.
 fn copy_within(buffer: &mut [u8], from: usize, to: usize, n: usize)
     requires { ⌜ (from + n ≤ length (now buffer)) × (to + n ≤ length (now buffer)) ⌝ }
@@ -69,6 +84,44 @@ fn copy_within(buffer: &mut [u8], from: usize, to: usize, n: usize)
         buffer[to + i] = buffer[from + i];
         i += 1;
     }
+}
+
+// ---- Newlines
+
+// 1 for a newline, else 0.
+fn newline_of(byte: u8) -> u8
+    ensures { λ r. ⌜ r ≡ pick (eqb byte 10) 1 0 ⌝ }
+{
+    if byte == 10 { 1 } else { 0 }
+}
+
+// How many newlines the 64 bytes from i on have. It is a loop without a branch, of which the compiler takes many bytes at once.
+fn newlines_at(input: &[u8], i: usize, to: usize) -> u8
+    requires { ⌜ (i + 64 ≤ to) × (to ≤ length (now input)) ⌝ }
+    ensures { λ r. ⌜ (r ≡ 0 → i + indexOf 10 (slice i to (now (input .entry))) ≡ i + 64 + indexOf 10 (slice (i + 64) to (now (input .entry)))) ⌝ }
+{
+    let mut n: u8 = 0;
+    let mut j: usize = 0;
+    while j < 64 {
+        n = n + newline_of(input[i + j]);
+        j += 1;
+    }
+    n
+}
+
+// The place of the first newline, or `to` where there is none.
+fn newline_from(input: &[u8], from: usize, to: usize) -> usize
+    requires { ⌜ (from ≤ to) × (to ≤ length (now input)) ⌝ }
+    ensures { λ r. ⌜ (r ≡ from + indexOf 10 (slice from to (now (input .entry)))) × (r ≤ to) ⌝ }
+{
+    let mut i = from;
+    while 64 <= to - i {
+        if 0 < newlines_at(input, i, to) {
+            return find(input, i, to, 10);
+        }
+        i += 64;
+    }
+    find(input, i, to, 10)
 }
 
 // ---- What is read
@@ -90,7 +143,7 @@ fn kept_of(left: usize) -> usize
     if left < KEPT { left } else { KEPT }
 }
 
-// Reads until there is a whole line. There is none from `start` to `end`; at the end of the input these bytes are the last line.
+// Reads until there is a whole line. There is none from `first` to `last`; at the end of the input these bytes are the last line.
 fn read_line(input: &mut [u8], first: usize, last: usize) -> Window
     requires { ⌜ (first ≤ last) × ((last ≤ length (now input)) × (first + indexOf 10 (slice first last (now input)) ≡ last)) ⌝ }
 {
@@ -113,16 +166,9 @@ fn read_line(input: &mut [u8], first: usize, last: usize) -> Window
         }
         start = 0;
         end = kept + got;
-        let newline = find(input, kept, end, 10);
+        let newline = newline_from(input, kept, end);
         if newline < end {
-            return Window {
-                start: 0,
-                line_end: newline,
-                next: newline + 1,
-                end,
-                gathered: 0,
-                is_line: true,
-            };
+            return whole_line(0, newline, end, 0);
         }
         turns -= 1;
     }
@@ -195,31 +241,17 @@ fn next_line(input: &mut [u8], output: &[u8], last: Window) -> Window {
     if end < start {
         return first_window();
     }
-    let newline = find(input, start, end, 10);
+    let newline = newline_from(input, start, end);
     if newline < end {
         if has_room(output, gathered, ANSWER) {
-            return Window {
-                start,
-                line_end: newline,
-                next: newline + 1,
-                end,
-                gathered,
-                is_line: true,
-            };
+            return whole_line(start, newline, end, gathered);
         }
     }
     if !write_gathered(output, gathered) {
         return lost_window();
     }
     if newline < end {
-        return Window {
-            start,
-            line_end: newline,
-            next: newline + 1,
-            end,
-            gathered: 0,
-            is_line: true,
-        };
+        return whole_line(start, newline, end, 0);
     }
     read_line(input, start, end)
 }

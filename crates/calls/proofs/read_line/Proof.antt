@@ -30,11 +30,11 @@ same-length c = c .before .before .input2 .given ∙ c .before .before .before .
 add-end : tie.Need-add-end Inv-loop μ-loop
 add-end c = record { fits = omega (arith, c .before .before .before .read-behind .ensures, c .before .before .before .before .before .before .input .given, c .before .before .before .before .before .before .before .before .before .before .before .loop .inv .0, c .before .before .before .before .before .before .before .before .before .before .before .before .before .good .0 .0) }
 
-find-requires : tie.Need-find-requires Inv-loop μ-loop
-find-requires c κs = (omega arith, omega (arith, c .before .before .before .before .read-behind .ensures, c .before .before .before .input2 .given))
+newline-from-requires : tie.Need-newline-from-requires Inv-loop μ-loop
+newline-from-requires c κs = (omega arith, omega (arith, c .before .before .before .before .read-behind .ensures, c .before .before .before .input2 .given))
 
 same-length-2 : tie.Need-same-length-2 Inv-loop μ-loop
-same-length-2 c = c .before .before .before .before .before .input2 .given ∙ c .before .before .before .before .before .before .before .before .before .input .given ∙ c .before .before .before .before .before .before .before .before .before .before .before .before .before .before .loop .inv .0
+same-length-2 c = c .before .before .before .before .before .before .input2 .given ∙ c .before .before .before .before .before .before .before .before .before .before .input .given ∙ c .before .before .before .before .before .before .before .before .before .before .before .before .before .before .before .loop .inv .0
 
 loop-less : tie.Need-loop-less Inv-loop μ-loop
 loop-less c = omega (arith, c .before .before .before .before .before .before .before .before .before .before .before .before .before .loop-test)
@@ -48,4 +48,4 @@ same-length-3 c = c .before .before .loop .inv .0
 pub read-line-spec : {M : Type 1} → statement M
 read-line-spec =
     tie.close
-    (tie.spec Inv-loop μ-loop loop-holds sub-kept-of (λ c. search needs) copy-within-requires read-behind-requires same-length (λ c. search needs) add-end find-requires (λ c. search needs) same-length-2 (λ c. search needs) (λ c. search needs) loop-less loop-again (λ c. search needs) same-length-3 (λ c. search needs))
+    (tie.spec Inv-loop μ-loop loop-holds sub-kept-of (λ c. search needs) copy-within-requires read-behind-requires same-length (λ c. search needs) add-end newline-from-requires (λ c. search needs) same-length-2 (λ c. search needs) (λ c. search needs) loop-less loop-again (λ c. search needs) same-length-3 (λ c. search needs))
