@@ -1,24 +1,25 @@
 // The call program: answers each line of its standard input as soon as it has it, and lists at the end. It reads, finds the lines and
 // writes; what a line is answered with is `script`'s, and the listing is `listing`'s. The answers to the lines that came with one read are
 // written together, before it reads again.
-use bytes::scan::find;
 use libc::STDIN_FILENO;
 use libc::STDOUT_FILENO;
 use listing::Listed;
 use listing::list;
+use newlines::newline_from;
 use relay::state::Bookkeeping;
 use relay::state::fresh_bookkeeping;
 use script::run_line;
 use table::Slot;
 use table::fresh_slot;
 ghost use Prim.Native.Nat.{_+_, _<_, _≤_};
-ghost use lib.Dec.{eqb, leb};
+ghost use lib.Dec.{leb};
 ghost use lib.ListN.{length, drop};
 ghost use mathlib.Core.List.{_++_};
 ghost use mathlib.Core.Path.{_≡_};
-ghost use Rattle.choice.specs.Choice.{pick};
 ghost use Rattle.bytes.specs.Bytes.{indexOf, slice};
 ghost use Rattle.listing.specs.Listing.{listing, lengthOf};
+
+mod newlines;
 
 // One byte more than a line may have: of a longer line no more is kept.
 const KEPT: usize = 3201;
@@ -84,44 +85,6 @@ fn copy_within(buffer: &mut [u8], from: usize, to: usize, n: usize)
         buffer[to + i] = buffer[from + i];
         i += 1;
     }
-}
-
-// ---- Newlines
-
-// 1 for a newline, else 0.
-fn newline_of(byte: u8) -> u8
-    ensures { λ r. ⌜ r ≡ pick (eqb byte 10) 1 0 ⌝ }
-{
-    if byte == 10 { 1 } else { 0 }
-}
-
-// How many newlines the 64 bytes from i on have. It is a loop without a branch, of which the compiler takes many bytes at once.
-fn newlines_at(input: &[u8], i: usize, to: usize) -> u8
-    requires { ⌜ (i + 64 ≤ to) × (to ≤ length (now input)) ⌝ }
-    ensures { λ r. ⌜ (r ≡ 0 → i + indexOf 10 (slice i to (now (input .entry))) ≡ i + 64 + indexOf 10 (slice (i + 64) to (now (input .entry)))) ⌝ }
-{
-    let mut n: u8 = 0;
-    let mut j: usize = 0;
-    while j < 64 {
-        n = n + newline_of(input[i + j]);
-        j += 1;
-    }
-    n
-}
-
-// The place of the first newline, or `to` where there is none.
-fn newline_from(input: &[u8], from: usize, to: usize) -> usize
-    requires { ⌜ (from ≤ to) × (to ≤ length (now input)) ⌝ }
-    ensures { λ r. ⌜ (r ≡ from + indexOf 10 (slice from to (now (input .entry)))) × (r ≤ to) ⌝ }
-{
-    let mut i = from;
-    while 64 <= to - i {
-        if 0 < newlines_at(input, i, to) {
-            return find(input, i, to, 10);
-        }
-        i += 64;
-    }
-    find(input, i, to, 10)
 }
 
 // ---- What is read

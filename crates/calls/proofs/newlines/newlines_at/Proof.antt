@@ -3,8 +3,8 @@ use mathlib.Core.Path.{refl}
 use native.Mathlib.Omega.{arith}
 use Rattle.calls.proofs.Laws.{Scanned, scanned-start, scanned-next, scanned-end}
 use borrow.Author.Needs.{needs}
-use Rattle.calls.proofs.newlines_at.Statement.{statement}
-use Rattle.calls.proofs.newlines_at.Tie as tie
+use Rattle.calls.proofs.newlines.newlines_at.Statement.{statement}
+use Rattle.calls.proofs.newlines.newlines_at.Tie as tie
 
 abbrev Inv-loop : tie.InvT-loop
 Inv-loop input i to n₀ j₀ n j = (j ≤ 64) × Scanned input i to n j

@@ -1,6 +1,6 @@
 use borrow.Author.Tests.{eq-eqb, ne-eqb}
-use Rattle.calls.proofs.newline_of.Statement.{statement}
-use Rattle.calls.proofs.newline_of.Tie as tie
+use Rattle.calls.proofs.newlines.newline_of.Statement.{statement}
+use Rattle.calls.proofs.newlines.newline_of.Tie as tie
 
 returns : tie.Need-returns
 returns c = rw (eq-eqb (c .before .args .byte) 10 (c .if1 .taken))

@@ -3,8 +3,8 @@ use mathlib.Core.Path.{_≡_, refl, sym, _∙_}
 use native.Mathlib.Omega.{arith}
 use Rattle.bytes.specs.Bytes.{slice, indexOf}
 use borrow.Author.Needs.{needs}
-use Rattle.calls.proofs.newline_from.Statement.{statement}
-use Rattle.calls.proofs.newline_from.Tie as tie
+use Rattle.calls.proofs.newlines.newline_from.Statement.{statement}
+use Rattle.calls.proofs.newlines.newline_from.Tie as tie
 
 abbrev Inv-loop : tie.InvT-loop
 Inv-loop input from to i₀ i = (i ≤ to) × (from + indexOf 10 (slice from to input) ≡ i + indexOf 10 (slice i to input))
