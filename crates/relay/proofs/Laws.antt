@@ -67,7 +67,7 @@ ready-user (Client c) datagram reply r = r .user
 ready-user (Peer c) datagram reply r = tt
 
 -- where the checks give no number, this one did not apply, and the rest give none
-none-of : (b : Bool) (c rest : ℕ) → pick b (suc c) rest ≡ 0 → (b ≡ false) × (rest ≡ 0)
+pub none-of : (b : Bool) (c rest : ℕ) → pick b (suc c) rest ≡ 0 → (b ≡ false) × (rest ≡ 0)
 none-of true c rest e = let y : ⊥ = omega (arith, e) in absurd y
 none-of false c rest e = (refl, e)
 

@@ -1,3 +1,4 @@
 pub mod Laws
 pub mod Marked
 pub mod Rows
+pub mod Sizes
