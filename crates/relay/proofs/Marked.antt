@@ -1,12 +1,11 @@
--- Document 01's marked cases, 'Both sides of each edge': one list of what each gives, and one proof that computes it through the step.
-use Prim.Native.Nat.{ℕ, _+_, _*_}
+-- Document 01's marked cases, 'Both sides of each edge': each is the last of a list of calls to a fresh relay, and one table has what each
+-- does: the clock and all slots afterwards, and the bytes that go to the client. Computed through the whole step.
+use Prim.Native.Nat.{ℕ, _+_}
 use mathlib.Core.Path.{_≡_, refl}
-use mathlib.Core.Bool.{true, false}
 use mathlib.Core.List.{List, [], _∷_, _++_}
-use lib.Dec.{leb}
-use lib.ListN.{length, replicate}
+use lib.ListN.{replicate}
 use Rattle.wire.specs.Wire.{num, bytesOf}
-use Rattle.choice.specs.Choice.{pick, both}
+use Rattle.choice.specs.Choice.{both}
 use Rattle.address.specs.declared.Address.the-variants.{V4}
 use Rattle.address.specs.declared.FiveTuple.{FiveTuple}
 use Rattle.address.specs.declared.Peer.{Peer as Transport}
@@ -14,131 +13,171 @@ use Rattle.address.specs.Address.{sameAddress, samePeer, sameFiveTuple}
 use Rattle.stun.specs.Kinds.{attributeKindOf}
 use Rattle.stun.specs.Message.{sorted, nextAt, stepAt, walkF, walk, wellFormed, isIntegrity, isUnknown, attributesFrom, firstOf, unknownNumbers, unknownTypes}
 use Rattle.stun.specs.Values.{transactionId, v4At, addressAt, peersOf, peersFrom, firstPeer, numberValue}
-use Rattle.messages.specs.Messages.{errorResponse, bareSuccess}
-use Rattle.table.specs.declared.Slot.{Slot}
-use Rattle.table.specs.declared.Found.the-variants.{At}
+use Rattle.messages.specs.Messages.{errorResponse, allocateSuccess, refreshSuccess, bareSuccess, dataIndication}
+use Rattle.table.specs.declared.Permission.{Permission}
+use Rattle.table.specs.declared.Channel.{Channel}
 use Rattle.table.specs.Search.{find, entry, place, atOr}
 use Rattle.table.specs.Table.{liveAllocation, livePermission, liveChannel, freshPermission, freshChannel, freshSlot, isChannelNumber, holds, holdsUser, holdsPort, permits, freePermission, permissionEntry, permit, numbered, leadsTo, numberTaken, peerTaken, freeChannel, channelEntry, bind}
-use Rattle.slots.specs.Slots.{slotAt}
-use Rattle.rules.specs.Act.{Out, dropped, toClient, toPeer, check, errorMessage, respond}
-use Rattle.rules.specs.Values.{anyUnknown, malformedPeer}
-use Rattle.rules.specs.Requests.{requestCode, ownCode, allocateCode, allocated, allocate, refreshCode, renewed, refreshed, refresh, bindCode, bound, takenCode, channelBindCode, channelBind, firstFree, portFor}
+use Rattle.slots.specs.Slots.{count}
+use Rattle.rules.specs.Act.{dropped, toClient, check, errorMessage, respond}
+use Rattle.rules.specs.Values.{anyUnknown, any, malformedPeer, ipv6Peer}
+use Rattle.rules.specs.Requests.{requestCode, ownCode, allocateCode, allocated, allocate, refreshCode, renewed, refreshed, refresh, permitPeer, permitAll, createPermissionCode, createPermission, bindCode, bound, takenCode, channelBindCode, channelBind, firstFree, portFor}
 use Rattle.rules.specs.Data.{permitted, relayed, fromPeer}
 use Rattle.rules.specs.Client.{askedBy}
-use Rattle.relay.specs.declared.incoming.FromClient.{FromClient}
 use Rattle.relay.specs.declared.incoming.Call.{Call}
-use Rattle.relay.specs.declared.incoming.Call.the-variants.{Client, Peer}
-use Rattle.relay.specs.State.{State, state, freshBookkeeping, atClock}
-use Rattle.relay.specs.State as relay
-use Rattle.relay.specs.Outcomes.{Act, refuse, accept}
-use Rattle.relay.specs.Refusals.{refusal}
-use Rattle.relay.specs.Step as step
-use Rattle.relay.specs.Step.{decided, accepted, act}
+use Rattle.relay.specs.State.{State, state, empty}
+use Rattle.relay.specs.Outcomes.{Act, accept, stateAfter}
+use Rattle.relay.specs.Refusals.{clientDatagram, peerDatagram, refusal}
+use Rattle.relay.specs.Step.{portsHeld, decided, accepted, act}
 
--- ---- The table and the calls of the cases
+-- ---- The calls, each with its datagram
+
+-- the peer
+abbrev source : Transport
+source = record { address = V4 0xc0000296; port = 5000 }
 
 abbrev client : FiveTuple
 client = record { client = record { address = V4 0xc6336407; port = 40000 }; server = record { address = V4 0xcb007105; port = 3478 }; protocol = 17 }
 
-abbrev expert : Transport
-expert = record { address = V4 0xc0000296; port = 5000 }
+abbrev header : (class type len : ℕ) → List ℕ
+header class type len = class ∷ type ∷ 0 ∷ len ∷ 0x21 ∷ 0x12 ∷ 0xa4 ∷ 0x42 ∷ replicate 12 0
 
--- an allocation to 1600, with a permission for the expert made at 1010
-abbrev held : Slot
-held = record {
-  allocation = record { user = 3; «five_tuple» = client; port = 49157; expiry = 1600 };
-  permissions = record { address = V4 0xc0000296; expiry = 1310 } ∷ replicate 7 freshPermission;
-  channels = replicate 8 freshChannel;
+-- REQUESTED-TRANSPORT 17
+abbrev transport : List ℕ
+transport = 0 ∷ 0x19 ∷ 0 ∷ 4 ∷ 17 ∷ 0 ∷ 0 ∷ 0 ∷ []
+
+-- LIFETIME
+abbrev lifetime : ℕ → List ℕ
+lifetime seconds = 0 ∷ 0x0d ∷ 0 ∷ 4 ∷ bytesOf 4 seconds
+
+-- CHANNEL-NUMBER
+abbrev channel : ℕ → List ℕ
+channel number = 0 ∷ 0x0c ∷ 0 ∷ 4 ∷ bytesOf 2 number ++ 0 ∷ 0 ∷ []
+
+-- XOR-PEER-ADDRESS of the peer
+abbrev peerAddress : List ℕ
+peerAddress = 0 ∷ 0x12 ∷ 0 ∷ 8 ∷ 0 ∷ 1 ∷ 0x32 ∷ 0x9a ∷ 0xe1 ∷ 0x12 ∷ 0xa6 ∷ 0xd4 ∷ []
+
+abbrev Arrival : Type 0
+Arrival = Call × List ℕ
+
+-- a request of user 3, with port start 5
+abbrev request : (time : ℕ) → List ℕ → Arrival
+request time datagram = (clientDatagram time 3 5 0xcb007105 client, datagram)
+
+abbrev allocateWith : ℕ → Arrival
+allocateWith seconds = request 1000 (header 0 3 16 ++ transport ++ lifetime seconds)
+
+abbrev refreshWith : ℕ → Arrival
+refreshWith seconds = request 1010 (header 0 4 8 ++ lifetime seconds)
+
+abbrev bindWith : ℕ → Arrival
+bindWith number = request 1010 (header 0 9 20 ++ channel number ++ peerAddress)
+
+abbrev permit1010 : Arrival
+permit1010 = request 1010 (header 0 8 12 ++ peerAddress)
+
+-- two bytes from the peer
+abbrev dataAt : (time : ℕ) → Arrival
+dataAt time = (peerDatagram time source 49157 (record { high = 0; middle = 0; low = 0 }), 0x68 ∷ 0x69 ∷ [])
+
+-- ---- What a call does after those before it
+
+abbrev does : State → Arrival → Act
+does st arrival = act st (arrival .0) (arrival .1) 1536
+
+abbrev after : State → List Arrival → State
+after st [] = st
+after st (arrival ∷ rest) = after (stateAfter st (does st arrival)) rest
+
+-- ---- What comes of it: the clock, the slots, and the bytes that go to the client
+
+-- the first slot has the allocation, the others are fresh
+abbrev holding : (time expiry : ℕ) → List Permission → List Channel → State
+holding time expiry permissions channels = state (record {
+  allocation = record { user = 3; «five_tuple» = client; port = 49157; expiry = expiry };
+  permissions = permissions;
+  channels = channels;
+} ∷ replicate 63 freshSlot) (record { clock = time })
+
+abbrev unpermitted : List Permission
+unpermitted = replicate 8 freshPermission
+
+-- the peer's permission, made at 1010
+abbrev permitted1010 : List Permission
+permitted1010 = record { address = V4 0xc0000296; expiry = 1310 } ∷ replicate 7 freshPermission
+
+abbrev unbound : List Channel
+unbound = replicate 8 freshChannel
+
+-- the peer's channel, bound at 1010
+abbrev bound1010 : ℕ → List Channel
+bound1010 number = record { number = number; peer = source; expiry = 1610 } ∷ replicate 7 freshChannel
+
+-- the allocation for so many seconds, and XOR-RELAYED-ADDRESS, LIFETIME, XOR-MAPPED-ADDRESS
+abbrev allocates : ℕ → Act
+allocates seconds =
+    accept (holding 1000 (1000 + seconds) unpermitted unbound)
+    (toClient client (header 1 3 32 ++ (0 ∷ 0x16 ∷ 0 ∷ 8 ∷ 0 ∷ 1 ∷ 0xe1 ∷ 0x17 ∷ 0xea ∷ 0x12 ∷ 0xd5 ∷ 0x47 ∷ []) ++ lifetime seconds ++ (0 ∷ 0x20 ∷ 0 ∷ 8 ∷ 0 ∷ 1 ∷ 0xbd ∷ 0x52 ∷ 0xe7 ∷ 0x21 ∷ 0xc0 ∷ 0x45 ∷ [])))
+
+abbrev refreshes : State → ℕ → Act
+refreshes next seconds = accept next (toClient client (header 1 4 8 ++ lifetime seconds))
+
+-- the error 400, and everything as it was but the clock
+abbrev refusesChannel : Act
+refusesChannel = accept (holding 1010 1600 unpermitted unbound) (toClient client (header 1 0x19 8 ++ 0 ∷ 0x09 ∷ 0 ∷ 4 ∷ 0 ∷ 0 ∷ 4 ∷ 0 ∷ []))
+
+abbrev binds : ℕ → Act
+binds number = accept (holding 1010 1600 permitted1010 (bound1010 number)) (toClient client (header 1 9 0))
+
+-- ---- The table
+
+-- to a fresh relay come these calls, and then this one does that
+abbrev Then : List Arrival → Arrival → Act → Type 0
+Then before arrival it = does (after empty before) arrival ≡ it
+
+-- an allocation made at 1000, to 1600
+abbrev allocation : List Arrival
+allocation = allocateWith 600 ∷ []
+
+-- and a permission for the peer made at 1010
+abbrev permission : List Arrival
+permission = allocateWith 600 ∷ permit1010 ∷ []
+
+pub record Marked : Type 0 where
+  -- 'Allocate LIFETIME 0 gives 600, 600 gives 600, 601 gives 601, 3600 and 3601 give 3600'
+  pub allocate-0 : Then [] (allocateWith 0) (allocates 600)
+  pub allocate-600 : Then [] (allocateWith 600) (allocates 600)
+  pub allocate-601 : Then [] (allocateWith 601) (allocates 601)
+  pub allocate-3600 : Then [] (allocateWith 3600) (allocates 3600)
+  pub allocate-3601 : Then [] (allocateWith 3601) (allocates 3600)
+  -- 'Refresh 0 gives 0, 1 gives 600'
+  pub refresh-0 : Then allocation (refreshWith 0) (refreshes (state (replicate 64 freshSlot) (record { clock = 1010 })) 0)
+  pub refresh-1 : Then allocation (refreshWith 1) (refreshes (holding 1010 1610 unpermitted unbound) 600)
+  -- 'channel 0x3FFF 400, 0x4000 and 0x4FFF taken, 0x5000 400'
+  pub channel-3fff : Then allocation (bindWith 0x3fff) refusesChannel
+  pub channel-4000 : Then allocation (bindWith 0x4000) (binds 0x4000)
+  pub channel-4fff : Then allocation (bindWith 0x4fff) (binds 0x4fff)
+  pub channel-5000 : Then allocation (bindWith 0x5000) refusesChannel
+  -- 'permission made at 1010 carries at 1309 and not at 1310'
+  pub permission-1309 : Then permission (dataAt 1309)
+      (accept (holding 1309 1600 permitted1010 unbound) (toClient client (header 0 0x17 20 ++ peerAddress ++ 0 ∷ 0x13 ∷ 0 ∷ 2 ∷ 0x68 ∷ 0x69 ∷ 0 ∷ 0 ∷ [])))
+  pub permission-1310 : Then permission (dataAt 1310) (accept (holding 1310 1600 permitted1010 unbound) dropped)
+
+pub marked : Marked
+unfolding act refusal decided accepted portsHeld askedBy permitted relayed fromPeer requestCode ownCode allocateCode allocated allocate refreshCode renewed refreshed refresh permitPeer permitAll createPermissionCode createPermission bindCode bound takenCode channelBindCode channelBind firstFree portFor anyUnknown any malformedPeer ipv6Peer check errorMessage respond liveAllocation livePermission liveChannel freshSlot isChannelNumber holds holdsUser holdsPort permits freePermission permissionEntry permit numbered leadsTo numberTaken peerTaken freeChannel channelEntry bind find entry place atOr count errorResponse allocateSuccess refreshSuccess bareSuccess dataIndication transactionId v4At addressAt peersOf peersFrom firstPeer numberValue sorted nextAt stepAt walkF walk wellFormed isIntegrity isUnknown attributesFrom firstOf unknownNumbers unknownTypes attributeKindOf sameAddress samePeer sameFiveTuple both num bytesOf
+marked = record {
+  allocate-0 = refl;
+  allocate-600 = refl;
+  allocate-601 = refl;
+  allocate-3600 = refl;
+  allocate-3601 = refl;
+  refresh-0 = refl;
+  refresh-1 = refl;
+  channel-3fff = refl;
+  channel-4000 = refl;
+  channel-4fff = refl;
+  channel-5000 = refl;
+  permission-1309 = refl;
+  permission-1310 = refl;
 }
-
-abbrev holding : List Slot
-holding = held ∷ replicate 63 freshSlot
-
-abbrev at : ℕ → State
-at time = state holding (atClock time freshBookkeeping)
-
-abbrev header : ℕ → ℕ → List ℕ
-header type len = 0 ∷ type ∷ 0 ∷ len ∷ 0x21 ∷ 0x12 ∷ 0xa4 ∷ 0x42 ∷ replicate 12 0
-
-abbrev allocateWith : ℕ → List ℕ
-allocateWith seconds = header 3 16 ++ 0 ∷ 0x19 ∷ 0 ∷ 4 ∷ 17 ∷ 0 ∷ 0 ∷ 0 ∷ 0 ∷ 0x0d ∷ 0 ∷ 4 ∷ bytesOf 4 seconds
-
-abbrev refreshWith : ℕ → List ℕ
-refreshWith seconds = header 4 8 ++ 0 ∷ 0x0d ∷ 0 ∷ 4 ∷ bytesOf 4 seconds
-
--- a ChannelBind for the expert
-abbrev bindWith : ℕ → List ℕ
-bindWith number =
-    header 9 20 ++ (0 ∷ 0x0c ∷ 0 ∷ 4 ∷ bytesOf 2 number) ++ 0 ∷ 0 ∷ 0 ∷ 0x12 ∷ 0 ∷ 8 ∷ 0 ∷ 1 ∷ 0x32 ∷ 0x9a ∷ 0xe1 ∷ 0x12 ∷ 0xa6 ∷ 0xd4 ∷ []
-
-abbrev caller : ℕ → FromClient
-caller time = record { time = time; user = 3; start = 5; relay = 0xcb007105; «five_tuple» = client }
-
-abbrev from : ℕ → Call
-from time = Client (caller time)
-
--- ---- What an act gives, as a number
-
--- the expiry of the first slot afterwards
-abbrev expiry : Act → ℕ
-expiry (refuse n) = 9
-expiry (accept next out) = slotAt (next .slots) 0 .allocation .expiry
-
--- the code of the error that it answers, or 0 where that is a success response
-abbrev codeIn : Out → ℕ
-codeIn dropped = 9
-codeIn (toClient fiveTuple message) = pick (leb 28 (length message)) (num message 26 1 * 100 + num message 27 1) 0
-codeIn (toPeer port peer start len) = 9
-
-abbrev code : Act → ℕ
-code (refuse n) = 9
-code (accept next out) = codeIn out
-
--- 1 where something goes to the client, 0 where it is dropped
-abbrev carriedIn : Out → ℕ
-carriedIn dropped = 0
-carriedIn (toClient fiveTuple message) = 1
-carriedIn (toPeer port peer start len) = 9
-
-abbrev carried : Act → ℕ
-carried (refuse n) = 9
-carried (accept next out) = carriedIn out
-
--- ---- The cases, and what each gives
-
--- the survey of an empty table is given, not computed
-abbrev allocateAt1000 : ℕ → ℕ
-allocateAt1000 seconds =
-    expiry (step.done relay.empty (At 0) (allocate (step.asRules (caller 1000)) (allocateWith seconds) (record { own = false; held = 0; free = true; port = 49157 })))
-
-abbrev refreshAt1010 : ℕ → ℕ
-refreshAt1010 seconds = expiry (act (at 1000) (from 1010) (refreshWith seconds) 1536)
-
-abbrev bindAt1010 : ℕ → ℕ
-bindAt1010 number = code (act (at 1000) (from 1010) (bindWith number) 1536)
-
-abbrev peerAt : ℕ → ℕ
-peerAt time = carried (act (at 1010) (Peer (record { time = time; source = expert; port = 49157; id = record { high = 0; middle = 0; low = 0 } })) (0x68 ∷ 0x69 ∷ []) 1536)
-
-abbrev pub cases : List ℕ
-cases =
-    allocateAt1000 0
-    ∷ allocateAt1000 600
-    ∷ allocateAt1000 601
-    ∷ allocateAt1000 3600
-    ∷ allocateAt1000 3601
-    ∷ refreshAt1010 0
-    ∷ refreshAt1010 1
-    ∷ bindAt1010 0x3fff
-    ∷ bindAt1010 0x4000
-    ∷ bindAt1010 0x4fff
-    ∷ bindAt1010 0x5000
-    ∷ peerAt 1309
-    ∷ peerAt 1310
-    ∷ []
-
--- 'Allocate LIFETIME 0 gives 600, 600 gives 600, 601 gives 601, 3600 and 3601 give 3600; Refresh 0 gives 0, 1 gives 600; channel 0x3FFF 400,
--- 0x4000 and 0x4FFF taken, 0x5000 400; permission made at 1010 carries at 1309 and not at 1310'
-pub marked : cases ≡ 1600 ∷ 1600 ∷ 1601 ∷ 4600 ∷ 4600 ∷ 0 ∷ 1610 ∷ 400 ∷ 0 ∷ 0 ∷ 400 ∷ 1 ∷ 0 ∷ []
-unfolding act refusal decided accepted askedBy permitted relayed fromPeer requestCode ownCode allocateCode allocated allocate refreshCode renewed refreshed refresh bindCode bound takenCode channelBindCode channelBind firstFree portFor anyUnknown malformedPeer check errorMessage respond liveAllocation livePermission liveChannel freshSlot isChannelNumber holds holdsUser holdsPort permits freePermission permissionEntry permit numbered leadsTo numberTaken peerTaken freeChannel channelEntry bind find entry place atOr errorResponse transactionId v4At addressAt peersOf peersFrom firstPeer numberValue sorted nextAt stepAt walkF walk wellFormed isIntegrity isUnknown attributesFrom firstOf unknownNumbers unknownTypes attributeKindOf sameAddress samePeer sameFiveTuple both num bytesOf bareSuccess
-marked = refl
