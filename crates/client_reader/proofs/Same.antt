@@ -7,7 +7,7 @@ use lib.ListN.{length, take, drop}
 use lib.Seq.{take-at}
 use borrow.Author.Tests.{eqb-true, eq-eqb}
 use Rattle.choice.proofs.Laws.{both-parts, both-true}
-use Rattle.messages.specs.Messages.{Sent}
+use Rattle.messages.specs.Inner.{Sent}
 use Rattle.client_reader.specs.declared.ReadMessage.{ReadMessage}
 use Rattle.client_reader.specs.Fields.{written}
 use Rattle.client_reader.specs.Reader.{nothing, when, sameBytes, checked}

@@ -31,8 +31,8 @@ use Rattle.slots.specs.Slots.{slotAt, inSlot, lapsed}
 use Rattle.rules.specs.declared.requests.ClientCall.{ClientCall}
 use Rattle.rules.specs.Act.{Out, dropped, toClient, toPeer, Change, keep, write, outOf, errorMessage, respond}
 use Rattle.rules.specs.Act as rules
-use Rattle.rules.specs.Values.{lifetime, channelNumber, numberOf, granted, grantedRefresh, anyUnknown, malformedPeer, ipv6Peer}
-use Rattle.rules.specs.Requests.{allocated, allocate, renewed, refreshed, refresh, permitAll, createPermission, bound, channelBind}
+use Rattle.rules.specs.Values.{lifetime, channelNumber, numberOf, anyUnknown, malformedPeer, ipv6Peer}
+use Rattle.rules.specs.Requests.{allocated, allocate, renewed, refreshed, refresh, permitAll, createPermission, bound, channelBind, granted, grantedRefresh}
 use Rattle.rules.specs.Data.{permitted, sentFrom, send, channelledFrom, channelled}
 use Rattle.rules.specs.declared.client.Asked.{Asked}
 use Rattle.rules.specs.declared.client.Asked.the-variants as Asked
@@ -43,7 +43,7 @@ use Rattle.relay.specs.declared.incoming.Call.the-variants.{Client, Peer}
 use Rattle.relay.specs.declared.incoming.FromClient.{FromClient}
 use Rattle.relay.specs.State.{State, withSlots}
 use Rattle.relay.specs.Outcomes.{Act, accept, outcomeOf, replyAfter, stateAfter}
-use Rattle.relay.specs.Step.{asRules, surveyOf, onAsked, done}
+use Rattle.relay.specs.Step.{asRules, roomFor, onAsked, done}
 use Rattle.client_reader.specs.Fields.{Bytes}
 use Rattle.history.specs.Counted.{Counted, nothing, gave, kept, allowed}
 use Rattle.history.specs.Events.{CallFits, countsBy}
@@ -117,14 +117,14 @@ module _ (call : FromClient) (st : State) (s reply : List ℕ) (full : length (s
 
   -- ---- Allocate
   module _ (k : ℕ) (found : find (inSlot (lapsed (call .time))) l ≡ At k) (slot : Slot) (out : Out)
-      (e : allocate (asRules call) s (surveyOf call l) ≡ write slot out) where
+      (e : allocate (asRules call) s (roomFor call l) ≡ write slot out) where
     takes : Made (put k slot out)
     unfolding allocated freshSlot
     takes =
-        let r = allocates (asRules call) s slot out (surveyOf call l) e in
+        let r = allocates (asRules call) s slot out (roomFor call l) e in
         let f = find-some (inSlot (lapsed (call .time))) l freshSlot k found in
         let range = granted-range (lifetime s) in
-        let port = surveyOf call l .port in
+        let port = roomFor call l .port in
         let is : slotAt (set l k slot) k ≡ allocated (asRules call) port (granted (lifetime s)) = put-same k slot (f .1) ∙ r .slot-is in
         rw (r .out-is, allocate-counts call s reply bytes port (granted (lifetime s)) (fits .0) (port-fits _ _) (omega arith) (fits .1 .0) (fits .1 .1)) (
           refl,
@@ -143,11 +143,11 @@ module _ (call : FromClient) (st : State) (s reply : List ℕ) (full : length (s
           },
         )
 
-  made-allocate : Made (done st (find (inSlot (lapsed (call .time))) l) (allocate (asRules call) s (surveyOf call l)))
+  made-allocate : Made (done st (find (inSlot (lapsed (call .time))) l) (allocate (asRules call) s (roomFor call l)))
   unfolding allocate
   made-allocate =
-      made-done (find (inSlot (lapsed (call .time))) l) (allocate (asRules call) s (surveyOf call l)) (respond-keeps _ _ s _ _ _)
-      (λ slot out e. allocates (asRules call) s slot out (surveyOf call l) e .room)
+      made-done (find (inSlot (lapsed (call .time))) l) (allocate (asRules call) s (roomFor call l)) (respond-keeps _ _ s _ _ _)
+      (λ slot out e. allocates (asRules call) s slot out (roomFor call l) e .room)
       takes
 
   -- ---- The requests about the caller's own slot

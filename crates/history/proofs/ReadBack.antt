@@ -34,8 +34,8 @@ use Rattle.table.specs.Table.{freshSlot, freshChannel, numbered, leadsTo}
 use Rattle.rules.specs.declared.answer.Outcome.the-variants.{ToClient}
 use Rattle.rules.specs.Act as rules
 use Rattle.rules.specs.Act.{Out, dropped, toClient, toPeer, Change, keep, write, outOf, errorMessage, respond}
-use Rattle.rules.specs.Values.{lifetime, grantedRefresh, anyUnknown, isIpv6, ipv4Of, malformedPeer, ipv6Peer}
-use Rattle.rules.specs.Requests.{allocate, refresh, createPermission, channelBind}
+use Rattle.rules.specs.Values.{lifetime, anyUnknown, isIpv6, ipv4Of, malformedPeer, ipv6Peer}
+use Rattle.rules.specs.Requests.{allocate, refresh, createPermission, channelBind, grantedRefresh}
 use Rattle.rules.specs.Data.{permitted, sentFrom, send, channelledFrom, channelled, relayed, fromPeer}
 use Rattle.rules.specs.declared.client.Asked.{Asked}
 use Rattle.rules.specs.declared.client.Asked.the-variants as Asked
@@ -47,7 +47,7 @@ use Rattle.relay.specs.declared.incoming.FromClient.{FromClient}
 use Rattle.relay.specs.State.{State, clockOf, atTime}
 use Rattle.relay.specs.Outcomes.{Act, refuse, accept, outcomeOf, replyAfter}
 use Rattle.relay.specs.Refusals.{timeOf, lengths, refusal}
-use Rattle.relay.specs.Step.{asRules, surveyOf, onAsked, decided, done, accepted, act}
+use Rattle.relay.specs.Step.{asRules, roomFor, onAsked, decided, done, accepted, act}
 use Rattle.relay.specs.Inner.{Ready}
 use Rattle.relay.proofs.Laws.{not-refused}
 use Rattle.client_reader.specs.declared.Message.the-variants as Is
@@ -176,11 +176,11 @@ module _ (s : List ℕ) (bytes : Bytes s) where
       go false e = error-message-back method code h (eqb-false code 0 e)
 
   module _ (call : FromClient) (fits : CallFits (Client call)) where
-    allocate-readable : (l : List Slot) → Readable (outOf (allocate (asRules call) s (surveyOf call l)))
+    allocate-readable : (l : List Slot) → Readable (outOf (allocate (asRules call) s (roomFor call l)))
     unfolding allocate
     allocate-readable l =
         let range = granted-range (lifetime s) in
-        respond-back _ _ _ _ (allocate-coded s (asRules call) (surveyOf call l))
+        respond-back _ _ _ _ (allocate-coded s (asRules call) (roomFor call l))
         (allocate-back (transactionId s) (id-fits s bytes) _ _ _ _ (fits .0) (port-fits _ _) (omega arith) (fits .1))
 
     refresh-readable : (own : Bool) (slot : Slot) → Readable (outOf (refresh (asRules call) s own slot))
@@ -201,7 +201,7 @@ module _ (s : List ℕ) (bytes : Bytes s) where
     channel-readable : (own : Bool) (slot : Slot) → Readable (outOf (channelBind (asRules call) s own slot))
     unfolding channelBind
     channel-readable own slot =
-        respond-back _ _ _ _ (channel-coded s (asRules call) own slot _ _) (bare-back (transactionId s) (id-fits s bytes) ChannelBind tt)
+        respond-back _ _ _ _ (channel-coded s (asRules call) own slot) (bare-back (transactionId s) (id-fits s bytes) ChannelBind tt)
 
     -- ---- A client's data
     send-readable : (own : Bool) (slot : Slot) → Readable (send (asRules call) s own slot)

@@ -11,7 +11,7 @@ use borrow.Author.Tests.{eq-eqb, ne-eqb, le-leb, lt-leb}
 use lib.ListN.{length, getD, take, drop, set, length-append, length-drop, take-append-drop, drop-of-length-le}
 use lib.Seq.{take-all, take-at, drop-at, drop-drop, set-split, length-take-le}
 use borrow.Rule.Slice.PartMut.{midOf, putMid}
-use Rattle.wire.specs.Wire.{Wrote}
+use Rattle.wire.specs.Inner.{Wrote}
 use Rattle.table.specs.declared.Slot.{Slot}
 use Rattle.table.specs.Table.{liveAllocation, freshSlot}
 use Rattle.slots.specs.Slots.{slotAt}

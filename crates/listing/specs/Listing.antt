@@ -43,7 +43,8 @@ permissionLines clock k permissions = texts (λ (i : ℕ). permissionLine clock 
 unfoldable pub channelLines : ℕ → ℕ → List Channel → List ℕ
 channelLines clock k channels = texts (λ (i : ℕ). channelLine clock k) 0 channels
 
--- the `A` line; 'then its `P`' lines, 'then its `C`' lines. A slot that isn't live has none
+-- the `A` line; 'then its `P`' lines, 'then its `C`' lines. That a slot which isn't live has no lines, whatever lives in it, is a choice:
+-- docs/DECISIONS.md, reading 1
 unfoldable pub slotLines : ℕ → ℕ → Slot → List ℕ
 slotLines clock k slot =
     pick (liveAllocation clock (slot .allocation))

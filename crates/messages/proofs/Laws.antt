@@ -7,14 +7,16 @@ use lib.Seq.{take-suc}
 use lib.Dec.{lit≤}
 use native.Mathlib.Omega.{arith}
 use native.Mathlib.Numerals.{add-one}
-use Rattle.wire.specs.Wire.{bytesOf, Wrote, WroteAt}
+use Rattle.wire.specs.Wire.{bytesOf}
+use Rattle.wire.specs.Inner.{Wrote, WroteAt}
 use Rattle.wire.proofs.Laws.{length-bytes}
 use Rattle.address.specs.declared.Address.{Address}
 use Rattle.address.specs.declared.Address.the-variants.{V4, V6}
 use Rattle.address.specs.declared.Peer.{Peer}
 use Rattle.address.specs.declared.TransactionId.{TransactionId}
 use Rattle.stun.specs.declared.kinds.Method.{Method}
-use Rattle.messages.specs.Messages.{headerBytes, attributeHead, padding, attributeBytes, attributeSize, messageBytes, addressAttribute, addressSize, typesBytes, allocateSuccess, refreshSuccess, bareSuccess, errorResponse, unknownResponse, dataIndication, channelData, Sent}
+use Rattle.messages.specs.Messages.{headerBytes, padding, attributeBytes, messageBytes, addressAttribute, typesBytes, allocateSuccess, refreshSuccess, bareSuccess, errorResponse, unknownResponse, dataIndication, channelData}
+use Rattle.messages.specs.Inner.{attributeHead, attributeSize, addressSize, Sent}
 
 -- ---- An attribute
 

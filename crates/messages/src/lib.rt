@@ -20,8 +20,9 @@ ghost use Prim.Native.Nat.{_≤_, _*_};
 ghost use lib.ListN.{length, take};
 ghost use Rattle.address.specs.declared.TransactionId.{TransactionId};
 ghost use Rattle.address.specs.declared.Address.the-variants.{V4, V6};
-ghost use Rattle.wire.specs.Wire.{Wrote};
-ghost use Rattle.messages.specs.Messages.{transactionIdBytes, headerBytes, attributeHead, addressHead, addressAttribute, addressSize, attributeSize, lifetimeAttribute, errorCodeAttribute, typesBytes, unknownAttribute, dataAttribute, allocateSuccess, refreshSuccess, bareSuccess, errorResponse, unknownResponse, dataIndication, channelData, padding, Sent};
+ghost use Rattle.wire.specs.Inner.{Wrote};
+ghost use Rattle.messages.specs.Messages.{transactionIdBytes, headerBytes, addressAttribute, lifetimeAttribute, errorCodeAttribute, typesBytes, unknownAttribute, dataAttribute, allocateSuccess, refreshSuccess, bareSuccess, errorResponse, unknownResponse, dataIndication, channelData, padding};
+ghost use Rattle.messages.specs.Inner.{attributeHead, addressHead, addressSize, attributeSize, Sent};
 
 // ---- The parts of a message
 

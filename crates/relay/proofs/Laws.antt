@@ -31,8 +31,9 @@ use Rattle.rules.specs.declared.answer.Outcome.{Outcome}
 use Rattle.rules.specs.declared.answer.Outcome.the-variants.{Refused}
 use Rattle.rules.specs.declared.client.Asked.{Asked}
 use Rattle.rules.specs.declared.client.Asked.the-variants as Asked
-use Rattle.rules.specs.declared.requests.Survey.{Survey as AllocateSurvey}
-use Rattle.rules.specs.Act.{Out, Change, keep, write, outOf, outcomeOf, replyAfter, writes, slotAfter, Gives, Answers}
+use Rattle.rules.specs.declared.requests.Room.{Room}
+use Rattle.rules.specs.Act.{Out, Change, keep, write, outOf, outcomeOf, replyAfter}
+use Rattle.rules.specs.Inner.{writes, slotAfter, Gives, Answers}
 use Rattle.rules.specs.Requests.{allocate, refresh, createPermission, channelBind, portFor}
 use Rattle.rules.specs.Data.{send, channelled}
 use Rattle.rules.specs.Client.{kindAsks, classAsks, askedBy}
@@ -48,7 +49,7 @@ use Rattle.relay.specs.declared.state.Bookkeeping.{Bookkeeping}
 use Rattle.relay.specs.State.{State, state, freshBookkeeping, atClock, atTime, withSlots}
 use Rattle.relay.specs.Outcomes.{Act, accept, Does}
 use Rattle.relay.specs.Refusals.{timeOf, lengths, refusal}
-use Rattle.relay.specs.Step.{portsHeld, asRules, surveyOf, aboutFound, aboutOwn, onAsked, decided, done, accepted, act, Stepped}
+use Rattle.relay.specs.Step.{portsHeld, asRules, roomFor, aboutFound, aboutOwn, onAsked, decided, done, accepted, act, Stepped}
 use Rattle.relay.specs.Inner.{ReadyClient, ReadyPeer, Ready, UserFits, askedFor, allocates, wantedBy, saw, Saw, placeFor, placeIn, unwritten, WroteBack, Answered}
 
 -- ---- A call that is not refused
@@ -160,7 +161,7 @@ ports-held {wanted} {slots} {survey} w =
 pub surveyed : (call : FromClient) {slots : List Slot} {survey : Survey} {own free : Bool} {port : ℕ}
     → Surveyed slots (wantedBy (Client call) (Asked.Allocate)) survey → own ≡ has (survey .own) → free ≡ has (survey .free)
     → port ≡ portFor (heldIn (survey .ports)) (call .start)
-    → _≡_ {A = AllocateSurvey} (record { own = own; held = survey .held; free = free; port = port }) (surveyOf call slots)
+    → _≡_ {A = Room} (record { own = own; held = survey .held; free = free; port = port }) (roomFor call slots)
 unfolding keyed
 surveyed call {slots} {survey} w o f p =
     let q = p ∙ ap (λ (l : List Bool). portFor l (call .start)) (ports-held w) in
@@ -201,7 +202,7 @@ peer-answers call {survey} {own} {reply} {reply′} {outcome} {there} h rule g s
 -- a slot is written only where one was found
 module _ (call : FromClient) (s : List ℕ) (slots : List Slot) where
   asked-writes : (asked : Asked) (slot : Slot) (out : Out) → onAsked call s slots asked .change ≡ write slot out → has (onAsked call s slots asked .place) ≡ true
-  asked-writes Asked.Allocate slot out e = allocate-accepted (asRules call) s slot out (surveyOf call slots) e .room
+  asked-writes Asked.Allocate slot out e = allocate-accepted (asRules call) s slot out (roomFor call slots) e .room
   asked-writes Asked.Refresh slot out e = refreshes (asRules call) s slot out _ _ e .owner .live
   asked-writes Asked.CreatePermission slot out e = permits (asRules call) s slot out _ _ e .owner .live
   asked-writes Asked.ChannelBind slot out e = binds (asRules call) s slot out _ _ e .owner .live

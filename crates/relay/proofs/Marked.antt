@@ -21,7 +21,7 @@ use Rattle.table.specs.Table.{liveAllocation, livePermission, liveChannel, fres
 use Rattle.slots.specs.Slots.{count}
 use Rattle.rules.specs.Act.{dropped, toClient, check, errorMessage, respond}
 use Rattle.rules.specs.Values.{anyUnknown, any, malformedPeer, ipv6Peer}
-use Rattle.rules.specs.Requests.{requestCode, ownCode, allocateCode, allocated, allocate, refreshCode, renewed, refreshed, refresh, permitPeer, permitAll, createPermissionCode, createPermission, bindCode, bound, takenCode, channelBindCode, channelBind, firstFree, portFor}
+use Rattle.rules.specs.Requests.{requestCode, ownCode, allocateCode, allocated, allocate, refreshCode, renewed, refreshed, refresh, permitPeer, permitAll, createPermissionCode, createPermission, bound, channelBindCode, channelBind, firstFree, portFor}
 use Rattle.rules.specs.Data.{permitted, relayed, fromPeer}
 use Rattle.rules.specs.Client.{askedBy}
 use Rattle.relay.specs.declared.incoming.Call.{Call}
@@ -165,7 +165,7 @@ pub record Marked : Type 0 where
   pub permission-1310 : Then permission (dataAt 1310) (accept (holding 1310 1600 permitted1010 unbound) dropped)
 
 pub marked : Marked
-unfolding act refusal decided accepted portsHeld askedBy permitted relayed fromPeer requestCode ownCode allocateCode allocated allocate refreshCode renewed refreshed refresh permitPeer permitAll createPermissionCode createPermission bindCode bound takenCode channelBindCode channelBind firstFree portFor anyUnknown any malformedPeer ipv6Peer check errorMessage respond liveAllocation livePermission liveChannel freshSlot isChannelNumber holds holdsUser holdsPort permits freePermission permissionEntry permit numbered leadsTo numberTaken peerTaken freeChannel channelEntry bind find entry place atOr count errorResponse allocateSuccess refreshSuccess bareSuccess dataIndication transactionId v4At addressAt peersOf peersFrom firstPeer numberValue sorted nextAt stepAt walkF walk wellFormed isIntegrity isUnknown attributesFrom firstOf unknownNumbers unknownTypes attributeKindOf sameAddress samePeer sameFiveTuple both num bytesOf
+unfolding act refusal decided accepted portsHeld askedBy permitted relayed fromPeer requestCode ownCode allocateCode allocated allocate refreshCode renewed refreshed refresh permitPeer permitAll createPermissionCode createPermission bound channelBindCode channelBind firstFree portFor anyUnknown any malformedPeer ipv6Peer check errorMessage respond liveAllocation livePermission liveChannel freshSlot isChannelNumber holds holdsUser holdsPort permits freePermission permissionEntry permit numbered leadsTo numberTaken peerTaken freeChannel channelEntry bind find entry place atOr count errorResponse allocateSuccess refreshSuccess bareSuccess dataIndication transactionId v4At addressAt peersOf peersFrom firstPeer numberValue sorted nextAt stepAt walkF walk wellFormed isIntegrity isUnknown attributesFrom firstOf unknownNumbers unknownTypes attributeKindOf sameAddress samePeer sameFiveTuple both num bytesOf
 marked = record {
   allocate-0 = refl;
   allocate-600 = refl;

@@ -26,7 +26,7 @@ use Rattle.relay.specs.State.{State, clockOf, atTime}
 use Rattle.relay.specs.Outcomes.{Act, refuse, accept, outcomeOf}
 use Rattle.relay.specs.Refusals.{timeOf, lengths, refusal}
 use Rattle.relay.specs.Sending.{sent}
-use Rattle.relay.specs.Step.{asRules, surveyOf, onAsked, decided, done, accepted, act}
+use Rattle.relay.specs.Step.{asRules, roomFor, onAsked, decided, done, accepted, act}
 use Rattle.relay.proofs.Laws.{none-of}
 
 -- what an act gives out fits
@@ -35,7 +35,7 @@ ActFits s (refuse number) = Unit
 ActFits s (accept next out) = (length s ≤ 1500) × Fits s out
 
 asked-fits : (call : FromClient) (s : List ℕ) (slots : List Slot) (asked : Asked) → Fits s (outOf (onAsked call s slots asked .change))
-asked-fits call s slots Asked.Allocate = allocate-fits (asRules call) s (surveyOf call slots)
+asked-fits call s slots Asked.Allocate = allocate-fits (asRules call) s (roomFor call slots)
 asked-fits call s slots Asked.Refresh = refresh-fits (asRules call) s _ _
 asked-fits call s slots Asked.CreatePermission = create-permission-fits (asRules call) s _ _
 asked-fits call s slots Asked.ChannelBind = channel-bind-fits (asRules call) s _ _

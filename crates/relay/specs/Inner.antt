@@ -18,7 +18,8 @@ use Rattle.rules.specs.declared.answer.Answer.{Answer}
 use Rattle.rules.specs.declared.answer.Outcome.{Outcome}
 use Rattle.rules.specs.declared.client.Asked.{Asked}
 use Rattle.rules.specs.declared.client.Asked.the-variants as Asked
-use Rattle.rules.specs.Act.{Change, Answers}
+use Rattle.rules.specs.Act.{Change}
+use Rattle.rules.specs.Inner.{Answers}
 use Rattle.rules.specs.Client.{askedBy}
 use Rattle.relay.specs.declared.incoming.Call.{Call}
 use Rattle.relay.specs.declared.incoming.Call.the-variants.{Client, Peer}

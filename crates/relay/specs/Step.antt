@@ -15,7 +15,7 @@ use Rattle.rules.specs.declared.answer.Outcome.{Outcome}
 use Rattle.rules.specs.declared.client.Asked.{Asked}
 use Rattle.rules.specs.declared.client.Asked.the-variants as Asked
 use Rattle.rules.specs.declared.requests.ClientCall.{ClientCall}
-use Rattle.rules.specs.declared.requests.Survey.{Survey}
+use Rattle.rules.specs.declared.requests.Room.{Room}
 use Rattle.rules.specs.Act.{Change, keep, write, dropped, outOf}
 use Rattle.rules.specs.Requests.{allocate, refresh, createPermission, channelBind, portFor}
 use Rattle.rules.specs.Data.{send, channelled, fromPeer}
@@ -40,8 +40,8 @@ abbrev pub asRules : FromClient → ClientCall
 asRules call = record { time = call .time; user = call .user; relay = call .relay; «five_tuple» = call .«five_tuple» }
 
 -- what Allocate asks
-abbrev pub surveyOf : FromClient → List Slot → Survey
-surveyOf call slots = record {
+abbrev pub roomFor : FromClient → List Slot → Room
+roomFor call slots = record {
   own = has (find (inSlot (holds (call .time) (call .«five_tuple»))) slots);
   held = count (inSlot (holdsUser (call .time) (call .user))) slots;
   free = has (find (inSlot (lapsed (call .time))) slots);
@@ -65,7 +65,7 @@ aboutOwn call slots rule = aboutFound slots (find (inSlot (holds (call .time) (c
 -- Allocate is about 'the lowest such slot' that isn't live, everything else about the caller's own
 abbrev pub onAsked : FromClient → List ℕ → List Slot → Asked → Decision
 onAsked call s slots Asked.Allocate =
-    record { place = find (inSlot (lapsed (call .time))) slots; change = allocate (asRules call) s (surveyOf call slots) }
+    record { place = find (inSlot (lapsed (call .time))) slots; change = allocate (asRules call) s (roomFor call slots) }
 onAsked call s slots Asked.Refresh = aboutOwn call slots (refresh (asRules call) s)
 onAsked call s slots Asked.CreatePermission = aboutOwn call slots (createPermission (asRules call) s)
 onAsked call s slots Asked.ChannelBind = aboutOwn call slots (channelBind (asRules call) s)

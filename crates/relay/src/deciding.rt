@@ -145,7 +145,7 @@ fn answer_allocate(
     let found = survey.own;
     let free = survey.free;
     let ports = survey.ports;
-    let asked = rules::requests::Survey {
+    let asked = rules::requests::Room {
         own: has(found),
         held: survey.held,
         free: has(free),

@@ -19,10 +19,10 @@ use Rattle.messages.specs.Messages.{allocateSuccess, refreshSuccess, bareSucces
 use Rattle.table.specs.declared.Slot.{Slot}
 use Rattle.table.specs.Table.{isChannelNumber, numberTaken, peerTaken, permit, bind}
 use Rattle.rules.specs.declared.requests.ClientCall.{ClientCall}
-use Rattle.rules.specs.declared.requests.Survey.{Survey}
+use Rattle.rules.specs.declared.requests.Room.{Room}
 use Rattle.rules.specs.Act.{Out, toClient, Change, keep, write, check, respond, errorMessage}
-use Rattle.rules.specs.Values.{lifetime, channelNumber, numberOf, granted, grantedRefresh, isIpv6, any, ipv6Peer}
-use Rattle.rules.specs.Requests.{requestCode, ownCode, allocateCode, allocated, allocate, refreshCode, refreshed, refresh, permitAll, createPermissionCode, createPermission, bindCode, bound, takenCode, channelBindCode, channelBind}
+use Rattle.rules.specs.Values.{lifetime, channelNumber, numberOf, isIpv6, any, ipv6Peer}
+use Rattle.rules.specs.Requests.{requestCode, ownCode, allocateCode, allocated, allocate, refreshCode, refreshed, refresh, permitAll, createPermissionCode, createPermission, bound, channelBindCode, channelBind, granted, grantedRefresh}
 
 -- ---- Checks
 
@@ -63,26 +63,26 @@ answered fiveTuple method s code accepted {slot} {out} e = go (eqb code 0) refl 
 
 module _ (call : ClientCall) (s : List ℕ) (slot : Slot) (out : Out) where
   -- ---- Allocate: the 5-tuple had no live slot, some slot was not live, and that one is written
-  pub record Allocates (survey : Survey) : Type 0 where
-    pub new : survey .own ≡ false
-    pub quota : leb 8 (survey .held) ≡ false
-    pub room : survey .free ≡ true
-    pub slot-is : slot ≡ allocated call (survey .port) (granted (lifetime s))
+  pub record Allocates (seen : Room) : Type 0 where
+    pub new : seen .own ≡ false
+    pub quota : leb 8 (seen .held) ≡ false
+    pub room : seen .free ≡ true
+    pub slot-is : slot ≡ allocated call (seen .port) (granted (lifetime s))
     pub out-is : out
-        ≡ toClient (call .«five_tuple») (allocateSuccess (transactionId s) (call .relay) (survey .port) (granted (lifetime s)) (call .«five_tuple» .client))
+        ≡ toClient (call .«five_tuple») (allocateSuccess (transactionId s) (call .relay) (seen .port) (granted (lifetime s)) (call .«five_tuple» .client))
 
-  pub allocates : (survey : Survey) → allocate call s survey ≡ write slot out → Allocates survey
+  pub allocates : (seen : Room) → allocate call s seen ≡ write slot out → Allocates seen
   unfolding allocate allocateCode
-  allocates survey e =
+  allocates seen e =
       let q = answered _ _ s _ _ e in
-      let own = passed (survey .own) 437 _ (some (omega arith)) (requested call s _ (q .0)) in
+      let own = passed (seen .own) 437 _ (some (omega arith)) (requested call s _ (q .0)) in
       let length-transport = passed _ 400 _ (some (omega arith)) (own .1) in
       let transport = passed _ 442 _ (some (omega arith)) (length-transport .1) in
       let length-family = passed _ 400 _ (some (omega arith)) (transport .1) in
       let family = passed _ 440 _ (some (omega arith)) (length-family .1) in
       let length-lifetime = passed _ 400 _ (some (omega arith)) (family .1) in
-      let held = passed (leb 8 (survey .held)) 486 _ (some (omega arith)) (length-lifetime .1) in
-      let free = passed (not (survey .free)) 508 0 (some (omega arith)) (held .1) in
+      let held = passed (leb 8 (seen .held)) 486 _ (some (omega arith)) (length-lifetime .1) in
+      let free = passed (not (seen .free)) 508 0 (some (omega arith)) (held .1) in
       record { new = own .0; quota = held .0; room = not-false _ (free .0); slot-is = cc; out-is = cc }
 
   module _ (own : Bool) (was : Slot) where
@@ -128,7 +128,7 @@ module _ (call : ClientCall) (s : List ℕ) (slot : Slot) (out : Out) where
       pub out-is : out ≡ toClient (call .«five_tuple») (bareSuccess ChannelBind (transactionId s))
 
     pub binds : channelBind call s own was ≡ write slot out → Binds (numberOf (channelNumber s)) (firstPeer s .peer)
-    unfolding channelBind channelBindCode takenCode bindCode
+    unfolding channelBind channelBindCode
     binds e =
         let q = answered _ _ s _ _ e in
         let owner = owns call s own was _ (q .0) in

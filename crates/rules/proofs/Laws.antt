@@ -22,10 +22,11 @@ use Rattle.stun.specs.declared.message.Found.{Found}
 use Rattle.stun.specs.declared.message.Found.the-variants as Place
 use Rattle.stun.specs.declared.channel_data.ChannelMessage.{ChannelMessage}
 use Rattle.stun.specs.declared.channel_data.ChannelMessage.the-variants.{Data, Malformed}
-use Rattle.stun.specs.Message.{attributes, firstOf, channelDataOf, attributesFit, wellFormed, unknownTypes, unknowns}
-use Rattle.stun.specs.Values.{firstPeer, peersFrom, NextPeer, Below}
+use Rattle.stun.specs.Message.{attributes, firstOf, channelDataOf, attributesFit, wellFormed, unknownTypes}
+use Rattle.stun.specs.Inner.{unknowns, NextPeer, Below}
+use Rattle.stun.specs.Values.{firstPeer, peersFrom}
 use Rattle.stun.proofs.Laws.{no-peer-left, one-peer-left}
-use Rattle.messages.specs.Messages.{Sent}
+use Rattle.messages.specs.Inner.{Sent}
 use Rattle.table.specs.declared.Slot.{Slot}
 use Rattle.table.specs.declared.Placed.{Placed}
 use Rattle.table.specs.Search.{find, has, atOr}
@@ -33,9 +34,10 @@ use Rattle.table.specs.Table.{freshChannel, numbered}
 use Rattle.rules.specs.declared.answer.Outcome.{Outcome}
 use Rattle.rules.specs.declared.answer.Outcome.the-variants.{ToClient}
 use Rattle.rules.specs.declared.requests.ClientCall.{ClientCall}
-use Rattle.rules.specs.Act.{Out, dropped, toClient, toPeer, keep, write, outcomeOf, replyAfter, Gives, Answers}
-use Rattle.rules.specs.Values.{anyUnknown, malformedPeer, ipv6Peer, any, numberOf, granted, grantedRefresh}
-use Rattle.rules.specs.Requests.{permitPeer, permitAll, firstFree}
+use Rattle.rules.specs.Act.{Out, dropped, toClient, toPeer, keep, write, outcomeOf, replyAfter}
+use Rattle.rules.specs.Inner.{Gives, Answers}
+use Rattle.rules.specs.Values.{anyUnknown, malformedPeer, ipv6Peer, any, numberOf}
+use Rattle.rules.specs.Requests.{permitPeer, permitAll, firstFree, granted, grantedRefresh}
 use Rattle.rules.specs.Data.{permitted, sentFrom, send, channelledFrom, channelled}
 
 -- ---- What a function that decides says

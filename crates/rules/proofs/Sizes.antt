@@ -27,7 +27,7 @@ use Rattle.table.specs.declared.Slot.{Slot}
 use Rattle.table.specs.Search.{find, has, atOr}
 use Rattle.table.specs.Table.{freshChannel, numbered, leadsTo}
 use Rattle.rules.specs.declared.requests.ClientCall.{ClientCall}
-use Rattle.rules.specs.declared.requests.Survey.{Survey}
+use Rattle.rules.specs.declared.requests.Room.{Room}
 use Rattle.rules.specs.Act.{Out, dropped, toClient, toPeer, Change, keep, write, outOf, errorMessage, respond}
 use Rattle.rules.specs.Values.{anyUnknown, isIpv6, ipv4Of, malformedPeer, ipv6Peer}
 use Rattle.rules.specs.Requests.{allocate, refresh, createPermission, channelBind}
@@ -57,9 +57,9 @@ respond-fits fiveTuple method s code accepted h = go (eqb code 0)
     go false = error-message-small method s code
 
 module _ (call : ClientCall) (s : List ℕ) where
-  pub allocate-fits : (survey : Survey) → Fits s (outOf (allocate call s survey))
+  pub allocate-fits : (room : Room) → Fits s (outOf (allocate call s room))
   unfolding allocate
-  allocate-fits survey = respond-fits _ _ s _ _ (allocate-small (transactionId s) _ _ _ _)
+  allocate-fits room = respond-fits _ _ s _ _ (allocate-small (transactionId s) _ _ _ _)
 
   pub refresh-fits : (own : Bool) (slot : Slot) → Fits s (outOf (refresh call s own slot))
   unfolding refresh

@@ -1,6 +1,5 @@
 -- What a call gives back (document 01, 'What a call gives back'), and what it does to the one slot that it is about.
 use Prim.Native.Nat.{ℕ}
-use mathlib.Core.Path.{_≡_}
 use mathlib.Core.Bool.{Bool, true, false}
 use mathlib.Core.List.{List, _++_}
 use lib.Dec.{eqb}
@@ -15,7 +14,6 @@ use Rattle.messages.specs.Messages.{errorResponse, unknownResponse}
 use Rattle.table.specs.declared.Slot.{Slot}
 use Rattle.rules.specs.declared.answer.Outcome.{Outcome}
 use Rattle.rules.specs.declared.answer.Outcome.the-variants.{Dropped, ToClient, ToPeer}
-use Rattle.rules.specs.declared.answer.Answer.{Answer}
 
 -- what goes out: nothing; a message's bytes to the client of a 5-tuple; a part of the datagram from a relay port to a peer
 pub data Out : Type 0 where
@@ -32,14 +30,6 @@ abbrev pub outOf : Change → Out
 outOf (keep out) = out
 outOf (write slot out) = out
 
-abbrev pub writes : Change → Bool
-writes (keep out) = false
-writes (write slot out) = true
-
-abbrev pub slotAfter : Slot → Change → Slot
-slotAfter was (keep out) = was
-slotAfter was (write slot out) = slot
-
 -- the table of outcomes: 'Dropped', 'To the client: 5-tuple, n bytes', 'To a peer: relay port, peer, place of payload'
 abbrev pub outcomeOf : Out → Outcome
 outcomeOf dropped = Dropped
@@ -51,17 +41,6 @@ abbrev pub replyAfter : List ℕ → Out → List ℕ
 replyAfter reply dropped = reply
 replyAfter reply (toClient fiveTuple message) = message ++ drop (length message) reply
 replyAfter reply (toPeer port peer start len) = reply
-
--- what a function that gives something out says: the outcome, and the reply as it leaves it
-pub record Gives (out : Out) (before after : List ℕ) (outcome : Outcome) : Type 0 where
-  pub outcome-is : outcome ≡ outcomeOf out
-  pub reply-is : after ≡ replyAfter before out
-
--- and one that decides about a slot: whether it is written, and with what
-pub record Answers (change : Change) (was : Slot) (before after : List ℕ) (answer : Answer) : Type 0 where
-  pub gives : Gives (outOf change) before after (answer .outcome)
-  pub writes : answer .writes ≡ writes change
-  pub slot : answer .slot ≡ slotAfter was change
 
 -- 'Checks in order; the first that applies gives the error response.' 0 is none
 unfoldable pub check : Bool → ℕ → ℕ → ℕ

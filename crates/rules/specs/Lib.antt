@@ -3,3 +3,4 @@ pub mod Values
 pub mod Requests
 pub mod Data
 pub mod Client
+pub mod Inner

@@ -1,7 +1,7 @@
 -- Document 01's 'Requests', in its order: for each request the checks with their codes, and what the accepted one does to its slot.
 -- What the searches over the slots found comes as arguments: `own` (there is a live slot for the 5-tuple), that slot, and for Allocate
 -- how many live slots the user holds, whether some slot isn't live, and the port.
-use Prim.Native.Nat.{ℕ, zero, suc, _+_, _%_}
+use Prim.Native.Nat.{ℕ, zero, suc, _+_, _%_, min, max}
 use mathlib.Core.Bool.{Bool, true, false, not}
 use mathlib.Core.List.{List, [], _∷_}
 use lib.Dec.{eqb, leb}
@@ -12,15 +12,17 @@ use Rattle.address.specs.declared.Peer.{Peer}
 use Rattle.stun.specs.declared.kinds.Method.{Method}
 use Rattle.stun.specs.declared.kinds.Method.the-variants.{Allocate, Refresh, CreatePermission, ChannelBind}
 use Rattle.stun.specs.declared.values.AddressValue.{AddressValue}
+use Rattle.stun.specs.declared.values.NumberValue.{NumberValue}
+use Rattle.stun.specs.declared.values.NumberValue.the-variants.{Number, WrongLength, Absent}
 use Rattle.stun.specs.Values.{transactionId, peers, firstPeer}
 use Rattle.messages.specs.Messages.{allocateSuccess, refreshSuccess, bareSuccess}
 use Rattle.table.specs.declared.Slot.{Slot}
 use Rattle.table.specs.declared.Placed.{Placed}
 use Rattle.table.specs.Table.{freshSlot, withAllocation, isChannelNumber, permit, numberTaken, peerTaken, bind}
 use Rattle.rules.specs.declared.requests.ClientCall.{ClientCall}
-use Rattle.rules.specs.declared.requests.Survey.{Survey}
+use Rattle.rules.specs.declared.requests.Room.{Room}
 use Rattle.rules.specs.Act.{Change, keep, write, toClient, check, respond}
-use Rattle.rules.specs.Values.{anyUnknown, channelNumber, lifetime, requestedFamily, requestedTransport, missing, wrongLength, otherThan, numberOf, granted, grantedRefresh, isIpv6, none, any, malformedPeer, ipv6Peer}
+use Rattle.rules.specs.Values.{anyUnknown, channelNumber, lifetime, requestedFamily, requestedTransport, missing, wrongLength, otherThan, numberOf, isIpv6, none, any, malformedPeer, ipv6Peer}
 
 -- 'For all: user 0 gives 401; any unknown attribute gives 420.'
 unfoldable pub requestCode : ClientCall → List ℕ → ℕ → ℕ
@@ -33,18 +35,35 @@ ownCode call s own slot rest =
 
 -- ---- Allocate
 
-unfoldable pub allocateCode : ClientCall → List ℕ → Survey → ℕ
-allocateCode call s survey =
+-- 'live allocation for the 5-tuple 437; REQUESTED-TRANSPORT missing or not 4 bytes 400; not 17 442; REQUESTED-ADDRESS-FAMILY not 4 bytes 400;
+-- not 1 440; LIFETIME not 4 bytes 400; user holds 8 or more live allocations 486; no slot that isn't live 508.'
+unfoldable pub allocateCode : ClientCall → List ℕ → Room → ℕ
+allocateCode call s room =
     requestCode call s
-    (check (survey .own) 437
+    (check (room .own) 437
     (check (missing (requestedTransport s)) 400
     (check (otherThan 17 (requestedTransport s)) 442
     (check (wrongLength (requestedFamily s)) 400
     (check (otherThan 1 (requestedFamily s)) 440
     (check (wrongLength (lifetime s)) 400
-    (check (leb 8 (survey .held)) 486
-    (check (not (survey .free)) 508
+    (check (leb 8 (room .held)) 486
+    (check (not (room .free)) 508
     0))))))))
+
+-- 'Its port is 49152 + k, where k is the first of start, start + 1, and on (remainders by 128) whose port no live slot holds.'
+unfoldable pub firstFree : ℕ → List Bool → ℕ → ℕ
+firstFree zero held k = k % 128
+firstFree (suc tries) held k = pick (getD held (k % 128) false) (firstFree tries held (suc k)) (k % 128)
+
+-- held says of each of the 128 ports whether a live slot holds it; there are fewer slots than ports, so 128 tries find a free one
+unfoldable pub portFor : List Bool → ℕ → ℕ
+portFor held start = 49152 + firstFree 128 held start
+
+-- 'Lifetime granted: absent 600; else the smaller of the value and 3600, but not below 600.'
+abbrev pub granted : NumberValue → ℕ
+granted (Number seconds) = max 600 (min seconds 3600)
+granted WrongLength = 600
+granted Absent = 600
 
 -- 'The lowest such slot is made fresh, then takes the user, the 5-tuple, the port and its expiry, now + granted.'
 unfoldable pub allocated : ClientCall → ℕ → ℕ → Slot
@@ -52,15 +71,16 @@ allocated call port seconds =
     withAllocation freshSlot (record { user = call .user; «five_tuple» = call .«five_tuple»; port = port; expiry = call .time + seconds })
 
 -- 'Reply: XOR-RELAYED-ADDRESS 0x0016, LIFETIME, XOR-MAPPED-ADDRESS 0x0020 (the client).'
-unfoldable pub allocate : ClientCall → List ℕ → Survey → Change
-allocate call s survey =
+unfoldable pub allocate : ClientCall → List ℕ → Room → Change
+allocate call s room =
     let seconds = granted (lifetime s) in
-    respond (call .«five_tuple») Allocate s (allocateCode call s survey)
-    (write (allocated call (survey .port) seconds)
-    (toClient (call .«five_tuple») (allocateSuccess (transactionId s) (call .relay) (survey .port) seconds (call .«five_tuple» .client))))
+    respond (call .«five_tuple») Allocate s (allocateCode call s room)
+    (write (allocated call (room .port) seconds)
+    (toClient (call .«five_tuple») (allocateSuccess (transactionId s) (call .relay) (room .port) seconds (call .«five_tuple» .client))))
 
 -- ---- Refresh
 
+-- 'no live allocation 437; other user 441; LIFETIME not 4 bytes 400; family not 4 bytes 400; family not 1 443.'
 unfoldable pub refreshCode : ClientCall → List ℕ → Bool → Slot → ℕ
 refreshCode call s own slot =
     ownCode call s own slot
@@ -68,6 +88,12 @@ refreshCode call s own slot =
     (check (wrongLength (requestedFamily s)) 400
     (check (otherThan 1 (requestedFamily s)) 443
     0)))
+
+-- 'In Refresh, 0 gives 0.'
+abbrev pub grantedRefresh : NumberValue → ℕ
+grantedRefresh (Number seconds) = pick (eqb seconds 0) 0 (max 600 (min seconds 3600))
+grantedRefresh WrongLength = 600
+grantedRefresh Absent = 600
 
 -- 'The expiry becomes now + granted'
 unfoldable pub renewed : ℕ → Slot → Slot
@@ -100,6 +126,7 @@ permitAll time (v ∷ rest) was done =
     let one = permitPeer time v done in
     pick (one .ok) (permitAll time rest was (one .slot)) (record { ok = false; slot = was })
 
+-- '437, 441 as above; no peer address 400; any malformed 400; any IPv6 443. .. if neither exists for some address, 508'
 unfoldable pub createPermissionCode : ClientCall → List ℕ → Bool → Slot → ℕ
 createPermissionCode call s own slot =
     ownCode call s own slot
@@ -117,46 +144,32 @@ createPermission call s own slot =
 
 -- ---- ChannelBind
 
--- the permission and then the channel: 'no room for the permission 508; none for the channel 508'
-unfoldable pub bindCode : ℕ → ℕ → Peer → Slot → ℕ
-bindCode time number peer slot =
-    let permitted = permit time (peer .address) slot in
-    let bound = bind time number peer (permitted .slot) in
-    check (not (permitted .ok)) 508 (check (not (bound .ok)) 508 0)
+-- '437, 441; number missing or not 4 bytes 400; peer missing or malformed 400; number outside 0x4000 to 0x4FFF 400; IPv6 443; number live for
+-- another peer 400; peer live on another number 400; no room for the permission 508; none for the channel 508.'
+unfoldable pub channelBindCode : ClientCall → List ℕ → Bool → Slot → ℕ
+channelBindCode call s own slot =
+    let number = numberOf (channelNumber s) in
+    let peer = firstPeer s .peer in
+    let permitted = permit (call .time) (peer .address) slot in
+    ownCode call s own slot
+    (check (missing (channelNumber s)) 400
+    (check (malformedPeer (firstPeer s)) 400
+    (check (not (isChannelNumber number)) 400
+    (check (isIpv6 (peer .address)) 443
+    (check (numberTaken (call .time) number peer (slot .channels)) 400
+    (check (peerTaken (call .time) number peer (slot .channels)) 400
+    (check (not (permitted .ok)) 508
+    (check (not (bind (call .time) number peer (permitted .slot) .ok)) 508
+    0))))))))
 
+-- 'Both entries are chosen as a permission's is above': the permission's, and then the channel's
 unfoldable pub bound : ℕ → ℕ → Peer → Slot → Slot
 bound time number peer slot = bind time number peer (permit time (peer .address) slot .slot) .slot
-
--- 'number outside 0x4000 to 0x4FFF 400; IPv6 443; number live for another peer 400; peer live on another number 400'
-unfoldable pub takenCode : ℕ → ℕ → Peer → Slot → ℕ → ℕ
-takenCode time number peer slot rest =
-    check (not (isChannelNumber number)) 400
-    (check (isIpv6 (peer .address)) 443
-    (check (numberTaken time number peer (slot .channels)) 400
-    (check (peerTaken time number peer (slot .channels)) 400
-    rest)))
-
--- 'number missing or not 4 bytes 400; peer missing or malformed 400'
-unfoldable pub channelBindCode : ClientCall → List ℕ → Bool → Slot → ℕ → ℕ
-channelBindCode call s own slot rest =
-    ownCode call s own slot (check (missing (channelNumber s)) 400 (check (malformedPeer (firstPeer s)) 400 rest))
 
 unfoldable pub channelBind : ClientCall → List ℕ → Bool → Slot → Change
 channelBind call s own slot =
     let number = numberOf (channelNumber s) in
     let peer = firstPeer s .peer in
-    respond (call .«five_tuple») ChannelBind s
-    (channelBindCode call s own slot (takenCode (call .time) number peer slot (bindCode (call .time) number peer slot)))
+    respond (call .«five_tuple») ChannelBind s (channelBindCode call s own slot)
     (write (bound (call .time) number peer slot)
     (toClient (call .«five_tuple») (bareSuccess ChannelBind (transactionId s))))
-
--- ---- The port of a new allocation
-
--- 'Its port is 49152 + k, where k is the first of start, start + 1, and on (remainders by 128) whose port no live slot holds.'
-unfoldable pub firstFree : ℕ → List Bool → ℕ → ℕ
-firstFree zero held k = k % 128
-firstFree (suc tries) held k = pick (getD held (k % 128) false) (firstFree tries held (suc k)) (k % 128)
-
--- held says of each of the 128 ports whether a live slot holds it; there are fewer slots than ports, so 128 tries find a free one
-unfoldable pub portFor : List Bool → ℕ → ℕ
-portFor held start = 49152 + firstFree 128 held start

@@ -10,7 +10,8 @@ use table::Slot;
 ghost use mathlib.Core.Path.{_≡_};
 ghost use Prim.Native.Nat.{_≤_};
 ghost use lib.ListN.{length};
-ghost use Rattle.rules.specs.Act.{check, errorMessage, Answers, keep, toClient};
+ghost use Rattle.rules.specs.Act.{check, errorMessage, keep, toClient};
+ghost use Rattle.rules.specs.Inner.{Answers};
 
 pub enum Outcome {
     Refused(u8),

@@ -12,6 +12,7 @@ use crate::values::number_of;
 use address::Peer;
 use messages::put_bare_success;
 use stun::kinds::Method;
+use stun::values::AddressValue;
 use stun::values::channel_number;
 use stun::values::first_peer;
 use stun::values::transaction_id;
@@ -25,61 +26,70 @@ ghost use mathlib.Core.Path.{_≡_};
 ghost use Prim.Native.Nat.{_≤_, _^_, _<_};
 ghost use lib.ListN.{length};
 ghost use Rattle.stun.specs.Values.{firstPeer};
-ghost use Rattle.rules.specs.Act.{Answers};
 ghost use Rattle.rules.specs.Values.{channelNumber, numberOf};
-ghost use Rattle.rules.specs.Requests.{bindCode, bound, takenCode, channelBindCode, channelBind};
+ghost use Rattle.rules.specs.Requests.{channelBindCode, channelBind};
+ghost use Rattle.rules.specs.Inner.{Binding, Answers};
 
-// The slot with the permission and the channel, and the code where one has no room.
+// The slot with the permission and the channel, and whether there was room for each.
 pub struct Bound {
-    pub code: u16,
+    pub permitted: bool,
+    pub bound: bool,
     pub slot: Slot,
 }
 
 fn bind_both(time: u64, number: u16, peer: Peer, slot: Slot) -> Bound
     requires { ⌜ time ≤ 2 ^ 40 ⌝ }
-    ensures { λ r. ⌜ (r .code ≡ bindCode time number peer slot) × (r .code ≤ 699) × (r .slot ≡ bound time number peer slot) ⌝ }
+    ensures { λ r. ⌜ Binding time number peer slot r ⌝ }
 {
     let address = peer.address;
-    let permitted = permit(time, address, slot);
-    let half = permitted.slot;
-    let both = bind(time, number, peer, half);
-    let made = both.slot;
-    let code = check(!permitted.ok, 508, check(!both.ok, 508, 0));
-    Bound { code, slot: made }
+    let permission = permit(time, address, slot);
+    let half = permission.slot;
+    let channel = bind(time, number, peer, half);
+    let made = channel.slot;
+    Bound {
+        permitted: permission.ok,
+        bound: channel.ok,
+        slot: made,
+    }
 }
 
-// What is wrong with the number and the peer, else what the later checks say.
-fn taken_code(time: u64, number: u16, peer: Peer, slot: Slot, rest: u16) -> u16
-    requires { ⌜ rest ≤ 699 ⌝ }
-    ensures { λ r. ⌜ (r ≡ takenCode time number peer slot rest) × (r ≤ 699) ⌝ }
+// Number and value are what the message carries, and made what they would make.
+fn channel_bind_code(
+    s: &[u8],
+    call: ClientCall,
+    own: bool,
+    slot: Slot,
+    number: u16,
+    value: AddressValue,
+    made: Bound,
+) -> u16
+    requires { ⌜ (20 ≤ length (now s)) × (number ≡ numberOf (channelNumber (now s))) × (value ≡ firstPeer (now s)) × Binding (call .time) number (value .peer) slot made ⌝ }
+    ensures { λ r. ⌜ (r ≡ channelBindCode call (now (s .entry)) own slot) × (r ≤ 699) ⌝ }
 {
+    let peer = value.peer;
     let address = peer.address;
     let channels = slot.channels;
+    let room = check(!made.permitted, 508, check(!made.bound, 508, 0));
     let live = check(
-        number_taken(time, number, peer, channels),
+        number_taken(call.time, number, peer, channels),
         400,
-        check(peer_taken(time, number, peer, channels), 400, rest),
+        check(peer_taken(call.time, number, peer, channels), 400, room),
     );
-    check(
+    let ranges = check(
         !is_channel_number(number),
         400,
         check(is_ipv6(address), 443, live),
-    )
-}
-
-// Rest is what is wrong once the number and the peer are there.
-fn channel_bind_code(s: &[u8], call: ClientCall, own: bool, slot: Slot, rest: u16) -> u16
-    requires { ⌜ (20 ≤ length (now s)) × (rest ≤ 699) ⌝ }
-    ensures { λ r. ⌜ (r ≡ channelBindCode call (now (s .entry)) own slot rest) × (r ≤ 699) ⌝ }
-{
-    let number = channel_number(s);
-    let peer = first_peer(s);
+    );
     own_code(
         s,
         call,
         own,
         slot,
-        check(missing(number), 400, check(malformed_peer(peer), 400, rest)),
+        check(
+            missing(channel_number(s)),
+            400,
+            check(malformed_peer(value), 400, ranges),
+        ),
     )
 }
 
@@ -90,14 +100,13 @@ pub fn channel_bind(s: &[u8], reply: &mut [u8], call: ClientCall, own: bool, was
     let number = number_of(channel_number(s)) as u16;
     let value = first_peer(s);
     let peer = value.peer;
-    let both = bind_both(call.time, number, peer, was);
-    let taken = taken_code(call.time, number, peer, was, both.code);
-    let code = channel_bind_code(s, call, own, was, taken);
+    let made = bind_both(call.time, number, peer, was);
+    let code = channel_bind_code(s, call, own, was, number, value, made);
     let five_tuple = call.five_tuple;
     if code != 0 {
         return respond_error(s, reply, five_tuple, Method::ChannelBind, code, was);
     }
-    let slot = both.slot;
+    let slot = made.slot;
     let len = put_bare_success(reply, Method::ChannelBind, transaction_id(s));
     let outcome = Outcome::ToClient { five_tuple, len };
     Answer {

@@ -24,8 +24,9 @@ use table::permissions::find_permission;
 ghost use mathlib.Core.Path.{_≡_};
 ghost use Prim.Native.Nat.{_≤_};
 ghost use lib.ListN.{length};
-ghost use Rattle.messages.specs.Messages.{Sent};
-ghost use Rattle.rules.specs.Act.{outcomeOf, Gives};
+ghost use Rattle.messages.specs.Inner.{Sent};
+ghost use Rattle.rules.specs.Act.{outcomeOf};
+ghost use Rattle.rules.specs.Inner.{Gives};
 ghost use Rattle.rules.specs.Data.{permitted, send, channelled, relayed, fromPeer};
 
 // Whether there is a live permission for the peer's IP address.

@@ -20,8 +20,8 @@ ghost use mathlib.Core.Path.{_≡_};
 ghost use Prim.Native.Nat.{_≤_, _^_};
 ghost use lib.ListN.{length};
 ghost use Rattle.stun.specs.Values.{peers};
-ghost use Rattle.rules.specs.Act.{Answers};
-ghost use Rattle.rules.specs.Values.{none, any, faulty};
+ghost use Rattle.rules.specs.Inner.{Answers, faulty};
+ghost use Rattle.rules.specs.Values.{none, any};
 ghost use Rattle.rules.specs.Requests.{permitPeer, permitAll, createPermissionCode, createPermission};
 
 fn no_peer(s: &[u8]) -> bool

@@ -24,7 +24,7 @@ use table::with_allocation;
 ghost use mathlib.Core.Path.{_≡_};
 ghost use Prim.Native.Nat.{_≤_, _^_};
 ghost use lib.ListN.{length};
-ghost use Rattle.rules.specs.Act.{Answers};
+ghost use Rattle.rules.specs.Inner.{Answers};
 ghost use Rattle.rules.specs.Requests.{requestCode, ownCode, allocateCode, allocated, allocate, refreshCode, renewed, refreshed, refresh};
 
 // What a client's call brings beside its datagram.
@@ -37,7 +37,7 @@ pub struct ClientCall {
 }
 
 // What Allocate asks of the whole table.
-pub struct Survey {
+pub struct Room {
     // The 5-tuple has a live slot.
     pub own: bool,
     // How many live slots the user holds.
@@ -71,16 +71,16 @@ pub fn own_code(s: &[u8], call: ClientCall, own: bool, slot: Slot, rest: u16) ->
 
 // ---- Allocate
 
-fn allocate_code(s: &[u8], call: ClientCall, survey: Survey) -> u16
-    ensures { λ r. ⌜ (r ≡ allocateCode call (now (s .entry)) survey) × (r ≤ 699) ⌝ }
+fn allocate_code(s: &[u8], call: ClientCall, room: Room) -> u16
+    ensures { λ r. ⌜ (r ≡ allocateCode call (now (s .entry)) room) × (r ≤ 699) ⌝ }
 {
     let transport = requested_transport(s);
     let family = requested_address_family(s);
-    let room = check(8 <= survey.held, 486, check(!survey.free, 508, 0));
+    let full = check(8 <= room.held, 486, check(!room.free, 508, 0));
     let values = check(
         other_than(1, family),
         440,
-        check(wrong_length(lifetime(s)), 400, room),
+        check(wrong_length(lifetime(s)), 400, full),
     );
     let rest = check(
         other_than(17, transport),
@@ -90,7 +90,7 @@ fn allocate_code(s: &[u8], call: ClientCall, survey: Survey) -> u16
     request_code(
         s,
         call,
-        check(survey.own, 437, check(missing(transport), 400, rest)),
+        check(room.own, 437, check(missing(transport), 400, rest)),
     )
 }
 
@@ -110,20 +110,20 @@ fn allocated(call: ClientCall, port: u16, seconds: u32) -> Slot
 }
 
 // Was is the slot that the allocation would take.
-pub fn allocate(s: &[u8], reply: &mut [u8], call: ClientCall, survey: Survey, was: Slot) -> Answer
+pub fn allocate(s: &[u8], reply: &mut [u8], call: ClientCall, room: Room, was: Slot) -> Answer
     requires { ⌜ (20 ≤ length (now s)) × (1536 ≤ length (now reply)) × (call .time ≤ 2 ^ 40) ⌝ }
-    ensures { λ r. ⌜ Answers (allocate call (now (s .entry)) survey) was (now (reply .entry)) (now (reply .exit)) r ⌝ }
+    ensures { λ r. ⌜ Answers (allocate call (now (s .entry)) room) was (now (reply .entry)) (now (reply .exit)) r ⌝ }
 {
-    let code = allocate_code(s, call, survey);
+    let code = allocate_code(s, call, room);
     let five_tuple = call.five_tuple;
     if code != 0 {
         return respond_error(s, reply, five_tuple, Method::Allocate, code, was);
     }
     let seconds = granted(lifetime(s));
-    let slot = allocated(call, survey.port, seconds);
+    let slot = allocated(call, room.port, seconds);
     let id = transaction_id(s);
     let client = five_tuple.client;
-    let len = put_allocate_success(reply, id, call.relay, survey.port, seconds, client);
+    let len = put_allocate_success(reply, id, call.relay, room.port, seconds, client);
     let outcome = Outcome::ToClient { five_tuple, len };
     Answer {
         outcome,

@@ -5,7 +5,9 @@ use stun::values::AddressValue;
 use stun::values::NumberValue;
 ghost use mathlib.Core.Path.{_≡_};
 ghost use Prim.Native.Nat.{min, max};
-ghost use Rattle.rules.specs.Values.{anyUnknown, missing, wrongLength, otherThan, numberOf, granted, grantedRefresh, isIpv6, ipv4Of, malformedPeer, ipv6Peer, faulty};
+ghost use Rattle.rules.specs.Values.{anyUnknown, missing, wrongLength, otherThan, numberOf, isIpv6, ipv4Of, malformedPeer, ipv6Peer};
+ghost use Rattle.rules.specs.Inner.{faulty};
+ghost use Rattle.rules.specs.Requests.{granted, grantedRefresh};
 
 // What CreatePermission looks each of its peer addresses over for.
 pub(crate) enum PeerFault {

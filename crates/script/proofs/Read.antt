@@ -16,7 +16,8 @@ use Rattle.choice.specs.Choice.{pick, both, lookup}
 use Rattle.choice.proofs.Laws.{lookup-none, NoneAfter}
 use Rattle.text.specs.declared.Parsed.{Parsed}
 use Rattle.text.specs.declared.Parsed.the-variants.{Number, Nothing}
-use Rattle.text.specs.Text.{decimalOf, hexWordOf, isHex, hexBytesOf, hexInto, ReadHex}
+use Rattle.text.specs.Text.{decimalOf, hexWordOf, isHex, hexBytesOf}
+use Rattle.text.specs.Inner.{hexInto, ReadHex}
 use Rattle.text.proofs.Laws.{hex-word-only, hex-into}
 use Rattle.relay.specs.declared.incoming.Call.{Call}
 use Rattle.script.specs.declared.fields.NumberField.{NumberField}

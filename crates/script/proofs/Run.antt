@@ -11,7 +11,7 @@ use Rattle.choice.specs.Choice.{pick, both}
 use Rattle.wire.specs.Wire.{partOf}
 use Rattle.rules.specs.declared.answer.Outcome.{Outcome}
 use Rattle.rules.specs.declared.answer.Outcome.the-variants.{Refused, Dropped, ToClient, ToPeer}
-use Rattle.messages.specs.Messages.{Sent}
+use Rattle.messages.specs.Inner.{Sent}
 use Rattle.relay.specs.declared.incoming.Call.{Call}
 use Rattle.relay.specs.State.{State}
 use Rattle.relay.specs.Outcomes.{stateAfter}

@@ -8,9 +8,9 @@ use lib.ListN.{length, getD, drop, set, length-append}
 use lib.Seq.{drop-cons, set-at}
 use borrow.Rule.Slice.PartMut.{midOf, putMid}
 use Rattle.address.specs.declared.Peer.{Peer}
-use Rattle.wire.specs.Wire.{Wrote}
+use Rattle.wire.specs.Inner.{Wrote}
 use Rattle.wire.proofs.Laws.{wrote-then}
-use Rattle.messages.specs.Messages.{Sent}
+use Rattle.messages.specs.Inner.{Sent}
 use Rattle.text.specs.Text.{line, decimal, addressText, hexBytes}
 use Rattle.script.specs.Answers.{sentTo}
 

@@ -6,7 +6,7 @@ use mathlib.Core.List.{List, [], _++_}
 use lib.Dec.{leb, ltb}
 use lib.ListN.{length, take, drop, replicate}
 use Rattle.choice.specs.Choice.{pick, both}
-use Rattle.messages.specs.Messages.{Sent}
+use Rattle.messages.specs.Inner.{Sent}
 use Rattle.rules.specs.declared.answer.Outcome.{Outcome}
 use Rattle.rules.specs.declared.answer.Outcome.the-variants.{Refused, Dropped, ToClient, ToPeer}
 use Rattle.relay.specs.declared.incoming.Call.{Call}

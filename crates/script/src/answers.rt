@@ -9,8 +9,8 @@ ghost use mathlib.Core.Path.{_≡_};
 ghost use mathlib.Core.List.{[], _∷_, _++_};
 ghost use Prim.Native.Nat.{_≤_};
 ghost use lib.ListN.{length};
-ghost use Rattle.wire.specs.Wire.{Wrote};
-ghost use Rattle.messages.specs.Messages.{Sent};
+ghost use Rattle.wire.specs.Inner.{Wrote};
+ghost use Rattle.messages.specs.Inner.{Sent};
 ghost use Rattle.text.specs.Text.{line, decimal, addressText, hexBytes};
 ghost use Rattle.script.specs.Answers.{sentTo, answerOf, badAnswer};
 

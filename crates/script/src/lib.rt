@@ -18,7 +18,7 @@ ghost use Prim.Native.Nat.{_≤_};
 ghost use lib.ListN.{length, take};
 ghost use Rattle.relay.specs.Sending.{sent};
 ghost use Rattle.relay.specs.State.{state};
-ghost use Rattle.messages.specs.Messages.{Sent};
+ghost use Rattle.messages.specs.Inner.{Sent};
 ghost use Rattle.script.specs.Answers.{answerOf};
 ghost use Rattle.script.specs.Lines.{lineOf, Reads};
 ghost use Rattle.script.specs.Run.{isToPeer, lineIn, Called, Runs};

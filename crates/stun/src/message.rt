@@ -3,7 +3,8 @@ use crate::kinds::AttributeKind;
 use wire::u16_at;
 use wire::u32_at;
 ghost use mathlib.Core.Path.{_≡_};
-ghost use Rattle.stun.specs.Message.{stepAt, attributesFit, wellFormed, isIntegrity, isUnknown, Next, attributes, firstOf, unknowns};
+ghost use Rattle.stun.specs.Message.{stepAt, attributesFit, wellFormed, isIntegrity, isUnknown, attributes, firstOf};
+ghost use Rattle.stun.specs.Inner.{Next, unknowns};
 
 pub struct Attribute {
     pub number: u16,

@@ -17,7 +17,8 @@ ghost use Prim.Native.Nat.{_+_, _^_, _<_, _≤_};
 ghost use lib.ListN.{length};
 ghost use Rattle.wire.specs.Wire.{num};
 ghost use Rattle.stun.specs.AttributeNumbers.{channelNumber, lifetime, requestedAddressFamily, requestedTransport};
-ghost use Rattle.stun.specs.Values.{transactionId, malformed, v4At, v6At, addressAt, NextPeer, firstPeer, widthOf, numberValue, Below};
+ghost use Rattle.stun.specs.Values.{transactionId, malformed, v4At, v6At, addressAt, firstPeer, numberValue};
+ghost use Rattle.stun.specs.Inner.{NextPeer, widthOf, Below};
 
 pub fn transaction_id(s: &[u8]) -> TransactionId
     requires { ⌜ 20 ≤ length (now s) ⌝ }

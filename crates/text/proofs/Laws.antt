@@ -14,13 +14,14 @@ use borrow.Author.Tests.{lt-ltb, le-ltb, le-leb, lt-leb, eq-eqb, ne-eqb, ltb-tru
 use borrow.Rule.Slice.PartMut.{midOf, putMid}
 use Rattle.choice.specs.Choice.{pick, both}
 use Rattle.choice.proofs.Laws.{both-parts}
-use Rattle.wire.specs.Wire.{Wrote}
+use Rattle.wire.specs.Inner.{Wrote}
 use Rattle.wire.proofs.Laws.{wrote-then}
 use Rattle.address.specs.declared.Address.{Address}
 use Rattle.address.specs.declared.Address.the-variants.{V4, V6}
 use Rattle.text.specs.declared.Parsed.{Parsed}
 use Rattle.text.specs.declared.Parsed.the-variants.{Number, Nothing}
-use Rattle.text.specs.Text.{digit, digitsOf, sizeWithin, decimalSize, decimal, hexWord, addressText, hexBytes, digitValue, numberFrom, ofSize, decimalOf, hexWordOf, isHex, hexBytesOf, hexFront, hexInto, ReadHex}
+use Rattle.text.specs.Text.{digit, digitsOf, sizeWithin, decimalSize, decimal, hexWord, addressText, hexBytes, digitValue, numberFrom, ofSize, decimalOf, hexWordOf, isHex, hexBytesOf}
+use Rattle.text.specs.Inner.{hexFront, hexInto, ReadHex}
 
 -- two numbers are in one of two orders
 either : (n m : ℕ) {P : Type 0} → (n < m → P) → (m ≤ n → P) → P

@@ -6,9 +6,10 @@ ghost use Prim.Native.Nat.{_+_, _*_, _<_, _≤_};
 ghost use lib.ListN.{length};
 ghost use lib.Seq.{slice};
 ghost use Rattle.address.specs.declared.Address.the-variants.{V6};
-ghost use Rattle.wire.specs.Wire.{Wrote, WroteAt};
+ghost use Rattle.wire.specs.Inner.{Wrote, WroteAt};
 ghost use Rattle.text.specs.Text.{digit, digitsOf, decimal, hexWord, addressText, hexBytes};
-ghost use Rattle.text.specs.Text.{digitValue, numberFrom, ofSize, decimalOf, hexWordOf, isHex, ReadHex};
+ghost use Rattle.text.specs.Text.{digitValue, numberFrom, ofSize, decimalOf, hexWordOf, isHex};
+ghost use Rattle.text.specs.Inner.{ReadHex};
 
 // ---- Written
 

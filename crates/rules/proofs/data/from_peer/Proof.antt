@@ -1,5 +1,5 @@
 use mathlib.Core.Path.{refl}
-use Rattle.rules.specs.Act.{Gives}
+use Rattle.rules.specs.Inner.{Gives}
 use Rattle.rules.specs.Data.{fromPeer}
 use Rattle.rules.proofs.Laws.{gives-message}
 use borrow.Author.Needs.{needs}
