@@ -10,16 +10,16 @@ use lib.Dec.{eqb}
 use lib.ListN.{length, getD, set, take, length-take}
 use lib.Seq.{take-suc, take-all, length-take-le, getD-set-same, getD-set-other}
 use Rattle.choice.specs.Choice.{pick, both}
-use Rattle.choice.proofs.Laws.{both-true, both-no}
 use Rattle.table.specs.declared.Allocation.{Allocation}
 use Rattle.table.specs.declared.Found.{Found}
 use Rattle.table.specs.declared.Found.the-variants.{At, Nothing}
 use Rattle.table.specs.declared.Slot.{Slot}
 use Rattle.table.specs.HeldPorts.{heldIn}
 use Rattle.table.specs.Search.{further, find, has, orElse, atOr}
-use Rattle.table.specs.Table.{freshSlot, holdsUser, holdsPort}
+use Rattle.table.specs.Table.{freshSlot, liveAllocation, holds, holdsUser, holdsPort}
 use Rattle.slots.specs.declared.surveys.Survey.{Survey}
 use Rattle.slots.specs.declared.keys.Key.{Key}
+use Rattle.slots.specs.declared.keys.Key.the-variants.{Client, Port}
 use Rattle.slots.specs.declared.keys.Wanted.{Wanted}
 use Rattle.slots.specs.Slots.{slotAt, inSlot, keyed, searched, count, lapsed, Surveyed, Looked, placeOf, Within, SurveyedWith}
 
@@ -82,32 +82,24 @@ module _ {A : Type 0} (p : A → Bool) where
       here true most = omega arith
       here false most = omega arith
 
--- ---- one more port: p, where it is live
+-- ---- one more port: p
 pub unmarked : (x : Bool) {b : Bool} → b ≡ false → x ≡ pick x true b
 unmarked true none = refl
 unmarked false none = sym none
 
-pub not-live : (live b : Bool) → live ≡ false → both live b ≡ false
-unfolding both
-not-live live b lapsed = rw lapsed
-
-pub other-port : (live : Bool) (p q : ℕ) → (p ≡ q → ⊥) → both live (eqb p q) ≡ false
-other-port live p q other = rw (ne-eqb p q other) (both-no live)
-
-module _ (ports : List Bool) {marked : List Bool} {live : Bool} {p k : ℕ} where
-  pub mark-at : marked ≡ set ports k true → live ≡ true → p ≡ 49152 + k → k < length ports
-      → (j : ℕ) → getD marked j false ≡ pick (getD ports j false) true (both live (eqb p (49152 + j)))
-  mark-at e lives at within j = rw e (by-case (eqb j k) refl)
+module _ (ports : List Bool) {marked : List Bool} {p k : ℕ} where
+  pub mark-at : marked ≡ set ports k true → p ≡ 49152 + k → k < length ports → (j : ℕ) → getD marked j false ≡ pick (getD ports j false) true (eqb p (49152 + j))
+  mark-at e at within j = rw e (by-case (eqb j k) refl)
     where
       held : (x : Bool) → true ≡ pick x true true
       held true = refl
       held false = refl
 
-      by-case : (b : Bool) → eqb j k ≡ b → getD (set ports k true) j false ≡ pick (getD ports j false) true (both live (eqb p (49152 + j)))
-      by-case true t = rw (eqb-true j k t, getD-set-same, both-true live (eqb p (49152 + k)) lives (eq-eqb p (49152 + k) at)) (held (getD ports k false))
+      by-case : (b : Bool) → eqb j k ≡ b → getD (set ports k true) j false ≡ pick (getD ports j false) true (eqb p (49152 + j))
+      by-case true t = rw (eqb-true j k t, getD-set-same, eq-eqb p (49152 + k) at) (held (getD ports k false))
       by-case false f =
           rw (getD-set-other ports k j true false (eqb-false j k f))
-          (unmarked (getD ports j false) (other-port live p (49152 + j) (λ same. eqb-false j k f (omega arith))))
+          (unmarked (getD ports j false) (ne-eqb p (49152 + j) (λ same. eqb-false j k f (omega arith))))
 
 -- ---- one more slot
 pub surveyed-with : {survey more : Survey} {i : ℕ} {wanted : Wanted} {allocation : Allocation}
@@ -122,6 +114,45 @@ surveyed-with {survey} {more} {i} {wanted} {allocation} own held free ports l sl
   free = rw (find-more (inSlot (lapsed (wanted .time))) l slot, ← before .free, same, here) free;
   ports = λ k h. rw (has-more (inSlot (holdsPort (wanted .time) (49152 + k))) l slot, ← before .ports k h, same) (ports k h);
 }
+
+-- ---- one more slot, by the tests that are made: it isn't live; or it is, and then it has the key or has not
+pub else-none : (found : Found) → found ≡ orElse found Nothing
+else-none (At i) = refl
+else-none Nothing = refl
+
+module _ (time : ℕ) (allocation : Allocation) where
+  lapsed-key : liveAllocation time allocation ≡ false → (key : Key) → keyed time key allocation ≡ false
+  unfolding keyed holds holdsPort both
+  lapsed-key dead (Client fiveTuple) = rw dead
+  lapsed-key dead (Port port) = rw dead
+
+  lapsed-user : liveAllocation time allocation ≡ false → (user : ℕ) → holdsUser time user allocation ≡ false
+  unfolding holdsUser both
+  lapsed-user dead user = rw dead
+
+  live-port : {b : Bool} → liveAllocation time allocation ≡ b → (port : ℕ) → holdsPort time port allocation ≡ both b (eqb (allocation .port) port)
+  unfolding holdsPort
+  live-port e port = rw e
+
+module _ {survey more : Survey} {i : ℕ} {wanted : Wanted} {allocation : Allocation} where
+  pub surveyed-lapsed : liveAllocation (wanted .time) allocation ≡ false → more .own ≡ survey .own → more .held ≡ survey .held
+      → more .free ≡ orElse (survey .free) (At i) → more .ports ≡ survey .ports → SurveyedWith survey i wanted allocation more
+  unfolding both
+  surveyed-lapsed dead own held free ports =
+      surveyed-with
+      (rw (lapsed-key (wanted .time) allocation dead (wanted .key)) (own ∙ else-none (survey .own)))
+      (rw (lapsed-user (wanted .time) allocation dead (wanted .user)) held)
+      (rw dead free)
+      (λ k h. rw (live-port (wanted .time) allocation dead (49152 + k), ports) (unmarked _ refl))
+
+  pub surveyed-live : liveAllocation (wanted .time) allocation ≡ true
+      → more .own ≡ orElse (survey .own) (pick (keyed (wanted .time) (wanted .key) allocation) (At i) Nothing)
+      → more .held ≡ pick (holdsUser (wanted .time) (wanted .user) allocation) (survey .held + 1) (survey .held) → more .free ≡ survey .free
+      → ((k : ℕ) → k < 128 → getD (heldIn (more .ports)) k false ≡ pick (getD (heldIn (survey .ports)) k false) true (eqb (allocation .port) (49152 + k)))
+      → SurveyedWith survey i wanted allocation more
+  unfolding both
+  surveyed-live lives own held free ports =
+      surveyed-with own held (rw lives (free ∙ else-none (survey .free))) (λ k h. rw (live-port (wanted .time) allocation lives (49152 + k)) (ports k h))
 
 -- ---- a loop over the slots: it has surveyed the first i
 module _ (l : List Slot) (i : ℕ) {wanted : Wanted} {survey : Survey} where

@@ -15,9 +15,8 @@ ghost use mathlib.Core.Bool.{true, false};
 ghost use Prim.Native.Nat.{ℕ, _+_, _<_, _^_};
 ghost use lib.Dec.{eqb};
 ghost use lib.ListN.{getD};
-ghost use Rattle.choice.specs.Choice.{pick, both};
+ghost use Rattle.choice.specs.Choice.{pick};
 ghost use Rattle.table.specs.HeldPorts.{heldIn};
-ghost use Rattle.table.specs.declared.Found.the-variants.{At, Nothing};
 ghost use Rattle.table.specs.Search.{has};
 ghost use Rattle.slots.specs.Slots.{placeOf, SurveyedNone, SurveyedWith};
 
@@ -86,26 +85,17 @@ fn counted(count: usize, counts: bool) -> usize
     if counts { count + 1 } else { count }
 }
 
-fn found_here(i: usize, here: bool) -> Found
-    ensures { λ r. ⌜ r ≡ pick here (At i) Nothing ⌝ }
+// The ports with this one held too, if it is one of the 128 from 49152 on, which is 384 * 128.
+fn mark(port: u16, ports: Ports) -> Ports
+    ensures { λ r. ⌜ ((k : ℕ) → k < 128 → getD (heldIn r) k false ≡ pick (getD (heldIn ports) k false) true (eqb port (49152 + k))) ⌝ }
 {
-    if here { Found::At(i) } else { Found::Nothing }
-}
-
-// The ports with this one held too where it is live, if it is one of the 128 from 49152 on, which is 384 * 128.
-fn mark(live: bool, port: u16, ports: Ports) -> Ports
-    ensures { λ r. ⌜ ((k : ℕ) → k < 128 → getD (heldIn r) k false ≡ pick (getD (heldIn ports) k false) true (both live (eqb port (49152 + k)))) ⌝ }
-{
-    if !live {
-        return ports;
-    }
     if port / 128 != 384 {
         return ports;
     }
     with_port(ports, (port % 128) as u64)
 }
 
-// The survey of the slots before slot i and of it, which has this allocation.
+// The survey of the slots before slot i and of it, which has this allocation. What most slots are is tested first.
 pub(crate) fn surveyed_with(
     survey: Survey,
     i: usize,
@@ -116,19 +106,30 @@ pub(crate) fn surveyed_with(
     ensures { λ r. ⌜ SurveyedWith survey i wanted allocation r ⌝ }
 {
     let time = wanted.time;
-    let live = allocation_is_live(time, allocation);
-    let key = wanted.key;
-    let mine = found_here(i, matches(time, key, allocation));
-    let held = counted(survey.held, holds_user(time, wanted.user, allocation));
-    let lapsed = found_here(i, !live);
-    let own_before = survey.own;
-    let own = or_else(own_before, mine);
-    let free_before = survey.free;
-    let free = or_else(free_before, lapsed);
+    let own = survey.own;
+    let free = survey.free;
     let marked = survey.ports;
-    let ports = mark(live, allocation.port, marked);
+    if !allocation_is_live(time, allocation) {
+        return Survey {
+            own,
+            held: survey.held,
+            free: or_else(free, Found::At(i)),
+            ports: marked,
+        };
+    }
+    let held = counted(survey.held, holds_user(time, wanted.user, allocation));
+    let ports = mark(allocation.port, marked);
+    let key = wanted.key;
+    if !matches(time, key, allocation) {
+        return Survey {
+            own,
+            held,
+            free,
+            ports,
+        };
+    }
     Survey {
-        own,
+        own: or_else(own, Found::At(i)),
         held,
         free,
         ports,
