@@ -1,6 +1,5 @@
 // The call program: answers each line of its standard input as soon as it has it, and lists at the end. It reads, finds the lines and
 // writes; what a line is answered with is `script`'s, and the listing is `listing`'s.
-use bytes::scan::find;
 use libc::STDIN_FILENO;
 use libc::STDOUT_FILENO;
 use listing::Listed;
@@ -10,6 +9,7 @@ use relay::state::fresh_bookkeeping;
 use script::run_line;
 use table::Slot;
 use table::fresh_slot;
+use text::scan::find_far;
 ghost use Prim.Native.Nat.{_+_, _<_, _≤_};
 ghost use lib.ListN.{length};
 
@@ -77,7 +77,7 @@ fn next_line(input: &mut [u8], last: Window) -> Window {
     let mut seen = start;
     let mut turns = u64::MAX;
     while 0 < turns {
-        let newline = find(input, seen, end, 10);
+        let newline = find_far(input, seen, end, 10);
         if newline < end {
             return Window {
                 start,

@@ -90,15 +90,9 @@ hexBytesOf [] = []
 hexBytesOf (c ∷ []) = []
 hexBytesOf (c ∷ e ∷ l) = (digitValue c * 16 + digitValue e) ∷ hexBytesOf l
 
--- the bytes of a text's pairs of digits, up to the first pair that is none
-unfoldable pub hexFront : List ℕ → List ℕ
-hexFront [] = []
-hexFront (c ∷ []) = []
-hexFront (c ∷ e ∷ l) = pick (both (ltb (digitValue c) 16) (ltb (digitValue e) 16)) ((digitValue c * 16 + digitValue e) ∷ hexFront l) []
-
--- a buffer after a text was read into it: those bytes stand at its front
+-- a buffer after a text was read into it: the bytes of a hex text stand at its front, and a text that is not hex leaves it as it was
 unfoldable pub hexInto : List ℕ → List ℕ → List ℕ
-hexInto text before = hexFront text ++ drop (length (hexFront text)) before
+hexInto text before = pick (isHex text) (hexBytesOf text ++ drop (length (hexBytesOf text)) before) before
 
 -- a hex text was read into a buffer: the number of its bytes is the answer, or nothing where the text is not hex
 pub record ReadHex (text before after : List ℕ) (read : Parsed) : Type 0 where

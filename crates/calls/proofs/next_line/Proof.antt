@@ -15,8 +15,8 @@ abbrev μ-loop : tie.MeasureT-loop
 loop-holds : tie.Need-loop-holds Inv-loop μ-loop
 loop-holds c = (refl, (omega arith, (omega (arith, c .if2 .left), omega (arith, c .before .if1 .left))))
 
-find-requires : tie.Need-find-requires Inv-loop μ-loop
-find-requires c κs = (omega (arith, c .before .before .loop .inv .0, c .before .before .loop .inv .1 .0, c .before .before .loop .inv .1 .1 .0, c .before .before .loop .inv .1 .1 .1), omega (arith, c .before .before .loop .inv .0, c .before .before .loop .inv .1 .0, c .before .before .loop .inv .1 .1 .0, c .before .before .loop .inv .1 .1 .1))
+find-far-requires : tie.Need-find-far-requires Inv-loop μ-loop
+find-far-requires c κs = (omega (arith, c .before .before .loop .inv .0, c .before .before .loop .inv .1 .0, c .before .before .loop .inv .1 .1 .0, c .before .before .loop .inv .1 .1 .1), omega (arith, c .before .before .loop .inv .0, c .before .before .loop .inv .1 .0, c .before .before .loop .inv .1 .1 .0, c .before .before .loop .inv .1 .1 .1))
 
 same-length : tie.Need-same-length Inv-loop μ-loop
 same-length c = c .before .before .before .before .loop .inv .0
@@ -48,7 +48,7 @@ same-length-3 c = c .before .before .loop .inv .0
 pub next-line-spec : {M : Type 1} → statement M
 next-line-spec =
     tie.close
-    (tie.spec Inv-loop μ-loop (λ c. search needs) (λ c. search needs) (λ c. search needs) (λ c. search needs) loop-holds find-requires
+    (tie.spec Inv-loop μ-loop (λ c. search needs) (λ c. search needs) (λ c. search needs) (λ c. search needs) loop-holds find-far-requires
     (λ c. search needs) same-length (λ c. search needs) sub-kept-of (λ c. search needs) to-front-requires read-behind-requires
     same-length-2 (λ c. search needs) add-end (λ c. search needs) loop-less loop-again (λ c. search needs) same-length-3
     (λ c. search needs))
