@@ -13,7 +13,7 @@ use Rattle.wire.specs.Wire.{num, partOf}
 use Rattle.stun.specs.declared.kinds.Class.{Class}
 use Rattle.stun.specs.declared.kinds.Class.the-variants as Class
 use Rattle.stun.specs.Kinds.{messageKindOf}
-use Rattle.stun.specs.Message.{sorted, wellFormed}
+use Rattle.stun.specs.Message.{sorted, wellFormed, channelDataOf}
 use Rattle.choice.specs.Choice.{pick}
 use Rattle.table.specs.declared.Slot.{Slot}
 use Rattle.table.specs.declared.Found.{Found}
@@ -28,13 +28,17 @@ use Rattle.slots.specs.declared.surveys.Survey.{Survey}
 use Rattle.slots.proofs.Laws.{found-within, own-within, place-there}
 use Rattle.rules.specs.declared.answer.Answer.{Answer}
 use Rattle.rules.specs.declared.answer.Outcome.{Outcome}
-use Rattle.rules.specs.declared.answer.Outcome.the-variants.{Refused}
+use Rattle.rules.specs.declared.answer.Outcome.the-variants.{Refused, Dropped}
 use Rattle.rules.specs.declared.client.Asked.{Asked}
 use Rattle.rules.specs.declared.client.Asked.the-variants as Asked
 use Rattle.rules.specs.declared.requests.Survey.{Survey as AllocateSurvey}
-use Rattle.rules.specs.Act.{Out, Change, keep, write, outOf, outcomeOf, replyAfter, writes, slotAfter, Gives, Answers}
+use Rattle.rules.specs.Act.{Out, Change, dropped, keep, write, outOf, outcomeOf, replyAfter, writes, slotAfter, Gives, Answers}
 use Rattle.rules.specs.Requests.{allocate, refresh, createPermission, channelBind, portFor}
-use Rattle.rules.specs.Data.{send, channelled}
+use Rattle.stun.specs.declared.channel_data.ChannelMessage.{ChannelMessage}
+use Rattle.stun.specs.declared.channel_data.ChannelMessage.the-variants.{Data, Malformed}
+use Rattle.rules.specs.declared.requests.ClientCall.{ClientCall}
+use Rattle.rules.specs.Values.{anyUnknown}
+use Rattle.rules.specs.Data.{send, channelledFrom, channelled, fromPeer}
 use Rattle.rules.specs.Client.{kindAsks, classAsks, askedBy}
 use Rattle.rules.proofs.Accepted.{allocates as allocate-accepted, refreshes, permits, binds}
 use Rattle.rules.proofs.Laws.{well-formed-long, kept-not-written}
@@ -49,7 +53,7 @@ use Rattle.relay.specs.State.{State, state, freshBookkeeping, atClock, a
 use Rattle.relay.specs.Outcomes.{Act, accept, Does}
 use Rattle.relay.specs.Refusals.{timeOf, lengths, refusal}
 use Rattle.relay.specs.Step.{portsHeld, asRules, surveyOf, aboutFound, aboutOwn, onAsked, decided, done, accepted, act, Stepped}
-use Rattle.relay.specs.Inner.{ReadyClient, ReadyPeer, Ready, UserFits, askedFor, allocates, wantedBy, saw, Saw, placeFor, placeIn, unwritten, WroteBack, Answered}
+use Rattle.relay.specs.Inner.{ReadyClient, ReadyPeer, Ready, UserFits, askedFor, allocates, isData, wantedBy, saw, Saw, placeFor, placeIn, unwritten, WroteBack, Answered}
 
 -- ---- A call that is not refused
 pub ready-client : {call : Call} {client : FromClient} {datagram reply : List ℕ} → call ≡ Client client → Ready call datagram reply
@@ -197,6 +201,53 @@ peer-answers call {survey} {own} {reply} {reply′} {outcome} {there} h rule g s
     subst (λ (f : Found). Answers (keep (rule (has f) (atOr freshSlot f slots))) own reply reply′ (unwritten outcome own)) (l .own)
     (subst (λ (x : Slot). Answers (keep (rule (has (survey .own)) x)) own reply reply′ (unwritten outcome own)) e
     (subst (λ (b : Bool). Answers (keep (rule b own)) own reply reply′ (unwritten outcome own)) h (data-answers own g)))
+
+-- data for which no slot was found is dropped
+module _ (call : ClientCall) (s : List ℕ) (slot : Slot) where
+  send-unfound : send call s false slot ≡ dropped
+  unfolding send
+  send-unfound = go (anyUnknown s)
+    where
+      go : (unknown : Bool) → pick unknown dropped dropped ≡ dropped
+      go true = refl
+      go false = refl
+
+  channelled-unfound : channelled call s false slot ≡ dropped
+  unfolding channelled
+  channelled-unfound = go (channelDataOf s)
+    where
+      go : (message : ChannelMessage) → channelledFrom call slot false message ≡ dropped
+      go (Data number start len) = refl
+      go Malformed = refl
+
+dropped-answers : {out : Out} (own : Slot) (reply : List ℕ) → out ≡ dropped → Answers (keep out) own reply reply (unwritten Dropped own)
+dropped-answers own reply e = rw e (data-answers own (quiet-gives reply refl refl))
+
+module _ {survey : Survey} (own : Slot) (reply : List ℕ) (none : has (survey .own) ≡ false) (s : List ℕ) where
+  pub client-dropped : (call : FromClient) (asked : Asked) → isData asked ≡ true → (slots : List Slot) → Looked slots (wantedBy (Client call) asked) survey
+      → own ≡ atOr freshSlot (survey .own) slots → Answers (onAsked call s slots asked .change) own reply reply (unwritten Dropped own)
+  client-dropped call Asked.Allocate y = absurd (false≢true y)
+  client-dropped call Asked.Refresh y = absurd (false≢true y)
+  client-dropped call Asked.CreatePermission y = absurd (false≢true y)
+  client-dropped call Asked.ChannelBind y = absurd (false≢true y)
+  client-dropped call Asked.Send y =
+      own-answers call Asked.Send (sym none) (λ there slot. keep (send (asRules call) s there slot)) (dropped-answers own reply (send-unfound (asRules call) s own))
+  client-dropped call Asked.ChannelData y =
+      own-answers call Asked.ChannelData (sym none) (λ there slot. keep (channelled (asRules call) s there slot)) (dropped-answers own reply (channelled-unfound (asRules call) s own))
+  client-dropped call Asked.Nothing y = λ slots l e. dropped-answers own reply refl
+
+  pub peer-dropped : (call : FromPeer) (slots : List Slot) → Looked slots (wantedBy (Peer call) Asked.Nothing) survey
+      → own ≡ atOr freshSlot (survey .own) slots → Answers (decided (Peer call) s slots .change) own reply reply (unwritten Dropped own)
+  unfolding decided fromPeer
+  peer-dropped call = peer-answers call (sym none) (fromPeer (call .time) (call .source) (call .id) s) (quiet-gives reply refl refl)
+
+-- a request is no data
+pub not-data : {asked it : Asked} {P : Type 0} → asked ≡ it → isData it ≡ false → isData asked ≡ true → P
+not-data e n y = absurd (false≢true (sym n ∙ ap isData (sym e) ∙ y))
+
+-- a peer's datagram is data
+pub peer-data : {call : Call} {peer : FromPeer} {asked : Asked} (s : List ℕ) → call ≡ Peer peer → asked ≡ askedFor call s → isData asked ≡ true
+peer-data {call} {peer} {asked} s e q = ap isData (subst (λ (x : Call). asked ≡ askedFor x s) e q)
 
 -- a slot is written only where one was found
 module _ (call : FromClient) (s : List ℕ) (slots : List Slot) where
@@ -359,12 +410,6 @@ module _ (slots : List Slot) (kept : Bookkeeping) (call : Call) (s reply : List 
 pub seen-within : (slots : List Slot) {call : Call} {s : List ℕ} {seen : Seen} → Saw slots call s seen → Within (seen .survey .own) (length slots)
 seen-within slots w = own-within slots (w .looked)
 
-pub read-within : (slots : List Slot) (seen : Seen) {survey : Survey} → survey ≡ seen .survey → Within (seen .survey .own) (length slots) → Within (survey .own) (length slots)
-read-within slots seen e w = subst (λ (x : Survey). Within (x .own) (length slots)) (sym e) w
-
-pub own-same : (slots : List Slot) {survey survey′ : Survey} → survey ≡ survey′ → atOr freshSlot (survey .own) slots ≡ atOr freshSlot (survey′ .own) slots
-own-same slots e = ap (λ (x : Survey). atOr freshSlot (x .own) slots) e
-
 -- the slot that is written lies in the table, and it is written back
 module _ (slots : List Slot) (call : Call) (s reply : List ℕ) (seen : Seen) {reply′ : List ℕ} {own : Slot} {answer : Answer} (sees : Saw slots call s seen)
     (w : Answers (decided call s slots .change) own reply reply′ answer) where
@@ -390,6 +435,10 @@ module _ (slots : List Slot) (seen : Seen) (answer : Answer) {none : Bool} {outc
     outcome-is = o;
     slots-are = rw (not-false (answer .writes) (sym e ∙ n)) (g ∙ ap (λ (j : ℕ). set slots j slot) p ∙ ap (set slots (placeIn seen)) c);
   }
+
+-- data writes none
+pub data-back : (slots : List Slot) (seen : Seen) {own : Slot} {outcome : Outcome} → WroteBack seen (unwritten outcome own) outcome slots slots
+data-back slots seen = record { outcome-is = refl; slots-are = refl }
 
 -- a call that was answered, with the clock as it was set
 pub clock-set : {slots : List Slot} {kept kept′ : Bookkeeping} {call : Call} {s : List ℕ} {outcome : Outcome} {slots′ : List Slot} {reply reply′ : List ℕ} → kept′ ≡ atClock (timeOf call) kept

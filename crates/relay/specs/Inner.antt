@@ -66,6 +66,16 @@ allocates Asked.Send = false
 allocates Asked.ChannelData = false
 allocates Asked.Nothing = false
 
+-- whether it is data, by which no slot is written
+abbrev pub isData : Asked → Bool
+isData Asked.Allocate = false
+isData Asked.Refresh = false
+isData Asked.CreatePermission = false
+isData Asked.ChannelBind = false
+isData Asked.Send = true
+isData Asked.ChannelData = true
+isData Asked.Nothing = true
+
 abbrev pub wantedBy : Call → Asked → Wanted
 wantedBy (Client call) asked = record { time = call .time; key = Key.Client (call .«five_tuple»); room = allocates asked; user = call .user }
 wantedBy (Peer call) asked = record { time = call .time; key = Key.Port (call .port); room = false; user = 0 }

@@ -21,16 +21,22 @@ use slots::surveys::Survey;
 use slots::surveys::place_of;
 use table::Found;
 use table::Slot;
+use table::fresh_slot;
 use table::has;
 ghost use mathlib.Core.Path.{_≡_};
-ghost use mathlib.Core.Bool.{not};
-ghost use Prim.Native.Nat.{_≤_};
+ghost use mathlib.Core.Bool.{true, false, not};
+ghost use mathlib.Core.List.{List};
+ghost use Prim.Native.Nat.{ℕ, _≤_};
 ghost use lib.ListN.{length};
+ghost use Rattle.slots.specs.Slots.{placeOf};
+ghost use Rattle.table.specs.Search.{has};
+ghost use Rattle.table.specs.Table.{freshSlot};
 ghost use Rattle.relay.specs.declared.incoming.Call.the-variants.{Client, Peer};
+ghost use Rattle.rules.specs.declared.answer.Outcome.the-variants.{Dropped};
 ghost use Rattle.rules.specs.declared.client.Asked.the-variants as AskedIs;
 ghost use Rattle.rules.specs.Client.{askedBy};
 ghost use Rattle.relay.specs.Step.{asRules, onAsked, decided};
-ghost use Rattle.relay.specs.Inner.{ReadyClient, ReadyPeer, Ready, UserFits, askedFor, allocates, wantedBy, saw, placeIn, unwritten, Answering};
+ghost use Rattle.relay.specs.Inner.{ReadyClient, ReadyPeer, Ready, UserFits, askedFor, allocates, isData, wantedBy, saw, placeIn, unwritten, Answering};
 
 pub(crate) fn asked_for(datagram: &[u8], call: Call) -> Asked
     ensures { λ r. ⌜ r ≡ askedFor call (now (datagram .entry)) ⌝ }
@@ -95,10 +101,22 @@ pub(crate) fn with_survey(asked: Asked, survey: Survey) -> Seen
     Seen { asked, survey }
 }
 
-pub(crate) fn survey_of(seen: Seen) -> Survey
-    ensures { λ r. ⌜ r ≡ seen .survey ⌝ }
+// Whether no slot was found.
+pub(crate) fn finds_none(seen: Seen) -> bool
+    ensures { λ r. ⌜ r ≡ not (has (seen .survey .own)) ⌝ }
 {
-    seen.survey
+    let survey = seen.survey;
+    let own = survey.own;
+    !has(own)
+}
+
+// The place of the slot that was found.
+pub(crate) fn own_place(seen: Seen) -> usize
+    ensures { λ r. ⌜ r ≡ placeOf (seen .survey .own) ⌝ }
+{
+    let survey = seen.survey;
+    let own = survey.own;
+    place_of(own)
 }
 
 // The place of the slot that is written: the lowest that isn't live for Allocate, the caller's own for every other request.
@@ -154,17 +172,99 @@ fn answer_allocate(
     allocate(datagram, reply, client_call(call), asked, own)
 }
 
-// Data passes or is dropped, and no slot is written.
-fn answer_data(outcome: Outcome, own: Slot) -> Answer
-    ensures { λ r. ⌜ r ≡ unwritten outcome own ⌝ }
+// Nothing passes, and no slot is written.
+fn answer_dropped(own: Slot) -> Answer
+    ensures { λ r. ⌜ r ≡ unwritten Dropped own ⌝ }
 {
     Answer {
-        outcome,
+        outcome: Outcome::Dropped,
         writes: false,
         slot: own,
     }
 }
 
+// A client's data, which passes or is dropped. A request is none.
+fn pass_client(
+    datagram: &[u8],
+    call: FromClient,
+    asked: Asked,
+    survey: Survey,
+    own: Slot,
+) -> Outcome
+    requires { ⌜ (call .user ≤ 32) × (asked ≡ askedBy (now datagram)) ⌝ }
+    ensures { λ r. ⌜ (isData asked ≡ true → ((reply : List ℕ) → Answering (Client call) asked (λ slots. onAsked call (now (datagram .entry)) slots asked .change) survey own reply reply (unwritten r own))) ⌝ }
+{
+    let found = survey.own;
+    match asked {
+        Asked::Allocate => Outcome::Dropped,
+        Asked::Refresh => Outcome::Dropped,
+        Asked::CreatePermission => Outcome::Dropped,
+        Asked::ChannelBind => Outcome::Dropped,
+        Asked::Send => send(datagram, client_call(call), has(found), own),
+        Asked::ChannelData => channelled(datagram, client_call(call), has(found), own),
+        Asked::Nothing => Outcome::Dropped,
+    }
+}
+
+// A peer's data.
+fn pass_peer(
+    datagram: &[u8],
+    reply: &mut [u8],
+    call: FromPeer,
+    survey: Survey,
+    own: Slot,
+) -> Outcome
+    requires { ⌜ ReadyPeer call (now datagram) (now reply) ⌝ }
+    ensures { λ r. ⌜ Answering (Peer call) AskedIs.Nothing (λ slots. decided (Peer call) (now (datagram .entry)) slots .change) survey own (now (reply .entry)) (now (reply .exit)) (unwritten r own) ⌝ }
+{
+    let found = survey.own;
+    from_peer(
+        datagram,
+        reply,
+        call.time,
+        call.source,
+        call.id,
+        has(found),
+        own,
+    )
+}
+
+// Whether it is data, by which no slot is written.
+pub(crate) fn is_data(seen: Seen) -> bool
+    ensures { λ r. ⌜ r ≡ isData (seen .asked) ⌝ }
+{
+    let asked = seen.asked;
+    match asked {
+        Asked::Allocate => false,
+        Asked::Refresh => false,
+        Asked::CreatePermission => false,
+        Asked::ChannelBind => false,
+        Asked::Send => true,
+        Asked::ChannelData => true,
+        Asked::Nothing => true,
+    }
+}
+
+// What data does: a slot is neither written nor passed on.
+pub(crate) fn pass_data(
+    datagram: &[u8],
+    reply: &mut [u8],
+    call: Call,
+    seen: Seen,
+    own: Slot,
+) -> Outcome
+    requires { ⌜ (Ready call (now datagram) (now reply) × (seen .asked ≡ askedFor call (now datagram))) × (isData (seen .asked) ≡ true) ⌝ }
+    ensures { λ r. ⌜ Answering call (seen .asked) (λ slots. decided call (now (datagram .entry)) slots .change) (seen .survey) own (now (reply .entry)) (now (reply .exit)) (unwritten r own) ⌝ }
+{
+    let asked = seen.asked;
+    let survey = seen.survey;
+    match call {
+        Call::Client(c) => pass_client(datagram, c, asked, survey, own),
+        Call::Peer(p) => pass_peer(datagram, reply, p, survey, own),
+    }
+}
+
+// A client's request, or data for which no slot was found: that is dropped.
 fn answer_client(
     datagram: &[u8],
     reply: &mut [u8],
@@ -173,7 +273,7 @@ fn answer_client(
     survey: Survey,
     own: Slot,
 ) -> Answer
-    requires { ⌜ ReadyClient call (now datagram) (now reply) × (asked ≡ askedBy (now datagram)) ⌝ }
+    requires { ⌜ (ReadyClient call (now datagram) (now reply) × (asked ≡ askedBy (now datagram))) × (isData asked ≡ true → has (survey .own) ≡ false) ⌝ }
     ensures { λ r. ⌜ Answering (Client call) asked (λ slots. onAsked call (now (datagram .entry)) slots asked .change) survey own (now (reply .entry)) (now (reply .exit)) r ⌝ }
 {
     let found = survey.own;
@@ -184,41 +284,13 @@ fn answer_client(
             create_permission(datagram, reply, client_call(call), has(found), own)
         }
         Asked::ChannelBind => channel_bind(datagram, reply, client_call(call), has(found), own),
-        Asked::Send => answer_data(send(datagram, client_call(call), has(found), own), own),
-        Asked::ChannelData => {
-            answer_data(
-                channelled(datagram, client_call(call), has(found), own),
-                own,
-            )
-        }
-        Asked::Nothing => answer_data(Outcome::Dropped, own),
+        Asked::Send => answer_dropped(own),
+        Asked::ChannelData => answer_dropped(own),
+        Asked::Nothing => answer_dropped(own),
     }
 }
 
-fn answer_peer(
-    datagram: &[u8],
-    reply: &mut [u8],
-    call: FromPeer,
-    survey: Survey,
-    own: Slot,
-) -> Answer
-    requires { ⌜ ReadyPeer call (now datagram) (now reply) ⌝ }
-    ensures { λ r. ⌜ Answering (Peer call) AskedIs.Nothing (λ slots. decided (Peer call) (now (datagram .entry)) slots .change) survey own (now (reply .entry)) (now (reply .exit)) r ⌝ }
-{
-    let found = survey.own;
-    let outcome = from_peer(
-        datagram,
-        reply,
-        call.time,
-        call.source,
-        call.id,
-        has(found),
-        own,
-    );
-    answer_data(outcome, own)
-}
-
-// What a call that is not refused does.
+// What a call does that is not refused: a request, or data for which no slot was found.
 pub(crate) fn answer_call(
     datagram: &[u8],
     reply: &mut [u8],
@@ -226,15 +298,23 @@ pub(crate) fn answer_call(
     seen: Seen,
     own: Slot,
 ) -> Answer
-    requires { ⌜ Ready call (now datagram) (now reply) × (seen .asked ≡ askedFor call (now datagram)) ⌝ }
+    requires { ⌜ (Ready call (now datagram) (now reply) × (seen .asked ≡ askedFor call (now datagram))) × (isData (seen .asked) ≡ true → has (seen .survey .own) ≡ false) ⌝ }
     ensures { λ r. ⌜ Answering call (seen .asked) (λ slots. decided call (now (datagram .entry)) slots .change) (seen .survey) own (now (reply .entry)) (now (reply .exit)) r ⌝ }
 {
     let asked = seen.asked;
     let survey = seen.survey;
     match call {
         Call::Client(c) => answer_client(datagram, reply, c, asked, survey, own),
-        Call::Peer(p) => answer_peer(datagram, reply, p, survey, own),
+        Call::Peer(_) => answer_dropped(own),
     }
+}
+
+// The same where no slot was found.
+pub(crate) fn answer_unfound(datagram: &[u8], reply: &mut [u8], call: Call, seen: Seen) -> Answer
+    requires { ⌜ (Ready call (now datagram) (now reply) × (seen .asked ≡ askedFor call (now datagram))) × (has (seen .survey .own) ≡ false) ⌝ }
+    ensures { λ r. ⌜ Answering call (seen .asked) (λ slots. decided call (now (datagram .entry)) slots .change) (seen .survey) freshSlot (now (reply .entry)) (now (reply .exit)) r ⌝ }
+{
+    answer_call(datagram, reply, call, seen, fresh_slot())
 }
 
 pub(crate) fn outcome_of(answer: Answer) -> Outcome

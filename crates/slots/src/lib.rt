@@ -8,20 +8,15 @@ use keys::wanted_time;
 use keys::wants_room;
 use surveys::Survey;
 use surveys::first_survey;
-use surveys::has_own;
 use surveys::only_own;
-use surveys::own_place;
 use surveys::surveyed_with;
 use table::Allocation;
 use table::Found;
 use table::Slot;
-use table::fresh_slot;
 ghost use mathlib.Core.Path.{_≡_};
 ghost use Prim.Native.Nat.{_<_};
 ghost use lib.ListN.{length, set};
-ghost use Rattle.table.specs.Search.{atOr};
-ghost use Rattle.table.specs.Table.{freshSlot};
-ghost use Rattle.slots.specs.Slots.{slotAt, searched, Within, Surveyed, Looked};
+ghost use Rattle.slots.specs.Slots.{slotAt, searched, Surveyed, Looked};
 
 pub mod keys;
 pub mod surveys;
@@ -91,15 +86,4 @@ pub fn look(slots: &[Slot], wanted: Wanted) -> Survey
         return survey(slots, wanted);
     }
     only_own(search(slots, wanted_time(wanted), wanted_key(wanted)))
-}
-
-// The slot of the key, or a fresh one where there is none.
-pub fn own_slot(slots: &[Slot], survey: Survey) -> Slot
-    requires { ⌜ Within (survey .own) (length (now slots)) ⌝ }
-    ensures { λ r. ⌜ r ≡ atOr freshSlot (survey .own) (now (slots .entry)) ⌝ }
-{
-    if !has_own(survey) {
-        return fresh_slot();
-    }
-    slot_at(slots, own_place(survey))
 }

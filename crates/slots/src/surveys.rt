@@ -5,7 +5,6 @@ use table::Allocation;
 use table::Found;
 use table::allocations::allocation_is_live;
 use table::allocations::holds_user;
-use table::has;
 use table::or_else;
 use table::ports::Ports;
 use table::ports::no_ports;
@@ -17,7 +16,6 @@ ghost use lib.Dec.{eqb};
 ghost use lib.ListN.{getD};
 ghost use Rattle.choice.specs.Choice.{pick};
 ghost use Rattle.table.specs.HeldPorts.{heldIn};
-ghost use Rattle.table.specs.Search.{has};
 ghost use Rattle.slots.specs.Slots.{placeOf, SurveyedNone, SurveyedWith};
 
 pub struct Survey {
@@ -62,20 +60,6 @@ pub fn place_of(found: Found) -> usize
         Found::At(k) => k,
         Found::Nothing => 0,
     }
-}
-
-pub(crate) fn has_own(survey: Survey) -> bool
-    ensures { λ r. ⌜ r ≡ has (survey .own) ⌝ }
-{
-    let own = survey.own;
-    has(own)
-}
-
-pub(crate) fn own_place(survey: Survey) -> usize
-    ensures { λ r. ⌜ r ≡ placeOf (survey .own) ⌝ }
-{
-    let own = survey.own;
-    place_of(own)
 }
 
 fn counted(count: usize, counts: bool) -> usize
