@@ -305,6 +305,13 @@ number-end {base} {s} {from} {to} {n} {i} r l =
     let e : i ≡ to = omega arith in
     sym (r .is ∙ rw (e, slice-empty))
 
+-- a number below the largest quotient has room for one digit more
+pub fits-below : (base n d : ℕ) → 0 < base → d < base → n < 18446744073709551615 / base → n ≤ (18446744073709551615 - d) / base
+fits-below base n d p k l =
+    let m : (n + 1) * base ≤ 18446744073709551615 = le-div-iff-mul-le p .0 (omega arith) in
+    let e : (n + 1) * base ≡ n * base + 1 * base = add-mul n 1 base in
+    le-div-iff-mul-le p .1 (omega arith)
+
 -- a character that is a digit, by its place in the code
 pub digit-low : (c : ℕ) → c < 58 → leb 48 c ≡ ltb (digitValue c) 16
 unfolding digitValue

@@ -3,8 +3,8 @@
 use address::Address;
 use choice::both;
 ghost use mathlib.Core.Path.{_≡_};
-ghost use Prim.Native.Nat.{_+_, _*_, _<_, _≤_};
-ghost use lib.Dec.{ltb};
+ghost use Prim.Native.Nat.{_+_, _-_, _*_, _/_, _<_, _≤_};
+ghost use lib.Dec.{leb, ltb};
 ghost use lib.ListN.{length};
 ghost use lib.Seq.{slice};
 ghost use Rattle.address.specs.declared.Address.the-variants.{V6};
@@ -169,6 +169,17 @@ fn is_digit(c: u8) -> bool
     }
 }
 
+// Whether n with a digit more stays below 2^64. Where the base is known, the first bound is a constant.
+fn fits_more(n: u64, base: u64, d: u64) -> bool
+    requires { ⌜ (0 < base) × ((d ≤ 16) × (d < base)) ⌝ }
+    ensures { λ r. ⌜ r ≡ leb n ((18446744073709551615 - d) / base) ⌝ }
+{
+    if n < 18446744073709551615 / base {
+        return true;
+    }
+    n <= (18446744073709551615 - d) / base
+}
+
 // The number whose digits are s from `from` to `to`.
 fn number(s: &[u8], from: usize, to: usize, base: u64) -> Parsed
     requires { ⌜ (0 < base) × ((base ≤ 16) × ((from ≤ to) × (to ≤ length (now s)))) ⌝ }
@@ -181,7 +192,7 @@ fn number(s: &[u8], from: usize, to: usize, base: u64) -> Parsed
         if base <= d {
             return Parsed::Nothing;
         }
-        if (18446744073709551615 - d) / base < n {
+        if !fits_more(n, base, d) {
             return Parsed::Nothing;
         }
         n = n * base + d;
