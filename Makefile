@@ -1,8 +1,8 @@
 # make run: prove and build calls, and show it at work. make test: all checks. make fuzz N=..: calls against the model, with new seeds.
-# make edits: the edits that the gate leaves out. make bench: instructions a line. make interop: real clients through the daemon.
+# make faults: the same tests against programs with one fault each. make bench: instructions a line. make interop: real clients through the daemon.
 # make bench-relayd: what a packet costs there. make package: the daemon's Debian package.
 # make browser: a browser through the daemon. make bench-front: what its front end costs.
-.PHONY: test run edits fuzz bench bench-relayd bench-front fmt relayd relayd-test calls interop browser package
+.PHONY: test run fuzz faults bench bench-relayd bench-front fmt relayd relayd-test calls interop browser package
 
 CALLS ?= target/bin/calls
 N ?= 100
@@ -10,6 +10,7 @@ N ?= 100
 test: relayd-test
 	rt fmt --check
 	tools/check-promises
+	tools/believed
 	tests/all
 
 run:
@@ -22,13 +23,13 @@ run:
 	@echo "since the permission is over at 1310. At the end the listing: A is the allocation that is still live."
 	@target/bin/calls < crates/calls/stdin
 
-# The edits that the gate leaves out: the prover must refuse them too.
-edits:
-	tests/edits/try
-
 # N scripts of 200 lines in each profile; prints the seeds, and the seed of what differs.
 fuzz: $(CALLS)
 	@CALLS=$(CALLS) tests/calls/compare --scripts $(N) --lines 200 --seed new
+
+# Whether the tests of calls can fail: each of some twenty stand-ins with one fault must be found. Some seven minutes.
+faults:
+	tests/calls/faults
 
 bench: $(CALLS)
 	@CALLS=$(CALLS) bench/instructions

@@ -13,6 +13,7 @@ import relay
 
 FAULT = sys.argv[1]
 LONGEST = 3201 if FAULT == "takes 3,201 characters" else 3200
+MOST = {"writes each answer by itself": 0, "gathers all answers": 1 << 30}.get(FAULT, 32768 - 4096)
 
 
 def rule(cls, name, change):
@@ -54,22 +55,22 @@ def read(n):
     return got
 
 
-def lines():
-    """The lines, each as soon as it is whole."""
+def batches():
+    """The whole lines of each read, and at the end a last one without a newline."""
     kept = b""
     while got := read(65536):
-        if FAULT == "waits for the end":
+        if FAULT == "waits for the end" or FAULT == "waits for half a line" and not got.endswith(b"\n"):
             kept += got
             continue
         if FAULT == "takes a part for the line":
-            yield got.rstrip(b"\n")
+            yield [got.rstrip(b"\n")]
             continue
         *whole, kept = (kept + got).split(b"\n")
-        yield from whole
+        yield whole
     parts = kept.split(b"\n")
-    yield from parts[:-1]
+    yield parts[:-1]
     if parts[-1] and FAULT != "forgets a line without a newline":
-        yield parts[-1]
+        yield parts[-1:]
 
 
 def answer(state, line):
@@ -97,11 +98,23 @@ def write(data):
         return FAULT == "goes on without a reader"
 
 
+def answer_all(state, lines):
+    """Answers the lines of a batch; whether every answer was written."""
+    gathered = b""
+    for line in lines:
+        if len(gathered) > MOST:
+            if not write(gathered):
+                return False
+            gathered = b""
+        gathered += answer(state, line)
+    return write(gathered)
+
+
 def main():
     spoil_rules()
     state = relay.Relay()
-    for line in lines():
-        if not write(answer(state, line)):
+    for lines in batches():
+        if not answer_all(state, lines):
             if FAULT == "lists after a lost answer":
                 break
             return

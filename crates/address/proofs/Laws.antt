@@ -6,10 +6,11 @@ use borrow.Author.Tests.{eqb-true, eq-eqb}
 use Rattle.choice.proofs.Laws.{both-parts, both-true}
 use Rattle.address.specs.declared.Address.{Address}
 use Rattle.address.specs.declared.Address.the-variants.{V4, V6}
-use Rattle.address.specs.declared.Peer.{Peer}
+use Rattle.address.specs.declared.TransportAddress.{TransportAddress}
 use Rattle.address.specs.declared.FiveTuple.{FiveTuple}
 use Rattle.address.specs.declared.TransactionId.{TransactionId}
-use Rattle.address.specs.Address.{sameAddress, samePeer, sameFiveTuple, sameTransactionId}
+use Rattle.address.specs.Address.{sameAddress, sameTransportAddress, sameFiveTuple}
+use Rattle.address.specs.Inner.{sameTransactionId}
 
 pub address-same : (a b : Address) → sameAddress a b ≡ true → a ≡ b
 unfolding sameAddress
@@ -32,32 +33,32 @@ address-refl (V4 a) = eq-eqb a a refl
 address-refl (V6 a b c d) =
     both-true _ _ (eq-eqb a a refl) (both-true _ _ (eq-eqb b b refl) (both-true _ _ (eq-eqb c c refl) (eq-eqb d d refl)))
 
-pub peer-same : (a b : Peer) → samePeer a b ≡ true → a ≡ b
-unfolding samePeer
-peer-same a b e =
+pub transport-address-same : (a b : TransportAddress) → sameTransportAddress a b ≡ true → a ≡ b
+unfolding sameTransportAddress
+transport-address-same a b e =
     let x = both-parts _ _ e in
     let p = address-same _ _ (x .0) in
     let q : a .port ≡ b .port = eqb-true _ _ (x .1) in
     λ i. record { address = p i; port = q i }
 
-pub peer-refl : (a : Peer) → samePeer a a ≡ true
-unfolding samePeer
-peer-refl a = both-true _ _ (address-refl (a .address)) (eq-eqb (a .port) (a .port) refl)
+pub transport-address-refl : (a : TransportAddress) → sameTransportAddress a a ≡ true
+unfolding sameTransportAddress
+transport-address-refl a = both-true _ _ (address-refl (a .address)) (eq-eqb (a .port) (a .port) refl)
 
 pub five-tuple-same : (a b : FiveTuple) → sameFiveTuple a b ≡ true → a ≡ b
 unfolding sameFiveTuple
 five-tuple-same a b e =
     let x = both-parts _ _ e in
     let y = both-parts _ _ (x .1) in
-    let p = peer-same _ _ (x .0) in
-    let q = peer-same _ _ (y .0) in
+    let p = transport-address-same _ _ (x .0) in
+    let q = transport-address-same _ _ (y .0) in
     let r : a .protocol ≡ b .protocol = eqb-true _ _ (y .1) in
     λ i. record { client = p i; server = q i; protocol = r i }
 
 pub five-tuple-refl : (a : FiveTuple) → sameFiveTuple a a ≡ true
 unfolding sameFiveTuple
 five-tuple-refl a =
-    both-true _ _ (peer-refl (a .client)) (both-true _ _ (peer-refl (a .server)) (eq-eqb (a .protocol) (a .protocol) refl))
+    both-true _ _ (transport-address-refl (a .client)) (both-true _ _ (transport-address-refl (a .server)) (eq-eqb (a .protocol) (a .protocol) refl))
 
 pub transaction-id-same : (a b : TransactionId) → sameTransactionId a b ≡ true → a ≡ b
 unfolding sameTransactionId

@@ -1,12 +1,11 @@
 -- When two addresses, peers, 5-tuples and transaction ids are the same.
-use mathlib.Core.Bool.{Bool, true, false}
+use mathlib.Core.Bool.{Bool, false}
 use lib.Dec.{eqb}
 use Rattle.choice.specs.Choice.{both}
 use Rattle.address.specs.declared.Address.{Address}
 use Rattle.address.specs.declared.Address.the-variants.{V4, V6}
-use Rattle.address.specs.declared.Peer.{Peer}
+use Rattle.address.specs.declared.TransportAddress.{TransportAddress}
 use Rattle.address.specs.declared.FiveTuple.{FiveTuple}
-use Rattle.address.specs.declared.TransactionId.{TransactionId}
 
 -- of one family, and each word the same
 unfoldable pub sameAddress : Address → Address → Bool
@@ -16,12 +15,9 @@ sameAddress (V6 a b c d) (V4 e) = false
 sameAddress (V6 a b c d) (V6 e f g h) = both (eqb a e) (both (eqb b f) (both (eqb c g) (eqb d h)))
 
 -- address and port
-unfoldable pub samePeer : Peer → Peer → Bool
-samePeer a b = both (sameAddress (a .address) (b .address)) (eqb (a .port) (b .port))
+unfoldable pub sameTransportAddress : TransportAddress → TransportAddress → Bool
+sameTransportAddress a b = both (sameAddress (a .address) (b .address)) (eqb (a .port) (b .port))
 
 -- 'A 5-tuple is client address and port, server address and port, and protocol.'
 unfoldable pub sameFiveTuple : FiveTuple → FiveTuple → Bool
-sameFiveTuple a b = both (samePeer (a .client) (b .client)) (both (samePeer (a .server) (b .server)) (eqb (a .protocol) (b .protocol)))
-
-unfoldable pub sameTransactionId : TransactionId → TransactionId → Bool
-sameTransactionId a b = both (eqb (a .high) (b .high)) (both (eqb (a .middle) (b .middle)) (eqb (a .low) (b .low)))
+sameFiveTuple a b = both (sameTransportAddress (a .client) (b .client)) (both (sameTransportAddress (a .server) (b .server)) (eqb (a .protocol) (b .protocol)))

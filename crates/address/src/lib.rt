@@ -1,7 +1,8 @@
 // Addresses, peers, 5-tuples and transaction ids, and the tests of their equality.
 use choice::both;
 ghost use mathlib.Core.Path.{_≡_};
-ghost use Rattle.address.specs.Address.{sameAddress, samePeer, sameFiveTuple, sameTransactionId};
+ghost use Rattle.address.specs.Address.{sameAddress, sameTransportAddress, sameFiveTuple};
+ghost use Rattle.address.specs.Inner.{sameTransactionId};
 
 // An IP address: IPv4 in one word, IPv6 in four, the highest first.
 pub enum Address {
@@ -10,14 +11,14 @@ pub enum Address {
 }
 
 // A transport address: what a client, a server or a peer is reached at.
-pub struct Peer {
+pub struct TransportAddress {
     pub address: Address,
     pub port: u16,
 }
 
 pub struct FiveTuple {
-    pub client: Peer,
-    pub server: Peer,
+    pub client: TransportAddress,
+    pub server: TransportAddress,
     pub protocol: u8,
 }
 
@@ -43,8 +44,8 @@ pub fn same_address(a: Address, b: Address) -> bool
     }
 }
 
-pub fn same_peer(a: Peer, b: Peer) -> bool
-    ensures { λ r. ⌜ r ≡ samePeer a b ⌝ }
+pub fn same_transport_address(a: TransportAddress, b: TransportAddress) -> bool
+    ensures { λ r. ⌜ r ≡ sameTransportAddress a b ⌝ }
 {
     if a.port != b.port {
         return false;
@@ -57,10 +58,13 @@ pub fn same_peer(a: Peer, b: Peer) -> bool
 pub fn same_five_tuple(a: FiveTuple, b: FiveTuple) -> bool
     ensures { λ r. ⌜ r ≡ sameFiveTuple a b ⌝ }
 {
-    if !same_peer(a.client, b.client) {
+    if !same_transport_address(a.client, b.client) {
         return false;
     }
-    both(same_peer(a.server, b.server), a.protocol == b.protocol)
+    both(
+        same_transport_address(a.server, b.server),
+        a.protocol == b.protocol,
+    )
 }
 
 pub fn same_transaction_id(a: TransactionId, b: TransactionId) -> bool

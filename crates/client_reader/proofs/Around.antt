@@ -1,5 +1,5 @@
 -- The messages that carry data: what stands around the data, tested by numbers, says that writing the fields makes the bytes.
-use Prim.Native.Nat.{ℕ, zero, suc, _+_, _-_, _*_, _/_, _%_, _^_, _≤_, _<_}
+use Prim.Native.Nat.{ℕ, zero, suc, _+_, _*_, _/_, _%_, _^_, _≤_, _<_}
 use mathlib.Core.Path.{_≡_, refl, sym, ap, ap₂, _∙_}
 use mathlib.Core.List.{List, [], _∷_, _++_, append-nil}
 use mathlib.Core.Bool.{Bool, true}
@@ -11,16 +11,16 @@ use lib.Dec.{eqb, lit<}
 use native.Mathlib.Nat.{pow-succ', mod-eq-of-lt}
 use native.Mathlib.Numerals.{add-one}
 use native.Mathlib.Omega.{arith}
-use borrow.Author.Tests.{eqb-true, eq-eqb}
-use Rattle.wire.specs.Wire.{num, bytesOf}
+use borrow.Author.Tests.{eqb-true, eq-eqb, le-leb}
+use Rattle.wire.specs.Wire.{num, bytesOf, partOf}
 use Rattle.wire.proofs.Laws.{num-written, bytes-mod, xor-twice}
 use Rattle.choice.specs.Choice.{both}
 use Rattle.choice.proofs.Laws.{both-parts, both-true}
 use Rattle.address.specs.declared.Address.the-variants.{V4}
 use Rattle.stun.specs.Values.{transactionId}
 use Rattle.messages.specs.Messages.{padding, addressAttribute, dataAttribute, dataIndication, channelData}
-use Rattle.client_reader.specs.Fields.{part, Bytes}
-use Rattle.client_reader.specs.Reader.{indicationHead, sameBytes}
+use Rattle.client_reader.specs.Fields.{Bytes}
+use Rattle.client_reader.specs.Inner.{indicationHead, sameBytes}
 use Rattle.client_reader.proofs.Same.{Tells, is-same}
 
 -- ---- Numbers that were read are written back
@@ -59,26 +59,30 @@ rewritten-is [] s at h k = refl
 rewritten-is (w ∷ ws) s at h k =
     rw (bytes-num s h at w (omega arith), rewritten-is ws s (at + w) h (omega arith), take-add w (sum ws) (drop at s), drop-drop w at s)
 
--- the bytes are what stands before the data, the data, and the rest
-around : (s : List ℕ) (start len : ℕ) → take start s ++ (part s start len ++ drop (start + len) s) ≡ s
-around s start len = rw (← drop-drop len start s, take-append-drop len (drop start s)) (take-append-drop start s)
+-- data that lies within the bytes
+pub part-within : (s : List ℕ) (start len : ℕ) → start + len ≤ length s → partOf s start len ≡ take len (drop start s)
+unfolding partOf
+part-within s start len k = rw (le-leb _ _ k) refl
 
--- data that lies within the bytes has its length
-pub part-size : (s : List ℕ) (start len : ℕ) → start + len ≤ length s → length (part s start len) ≡ len
-part-size s start len h = rw (length-take, length-drop) (omega arith)
+pub part-size : (s : List ℕ) (start len : ℕ) → start + len ≤ length s → length (partOf s start len) ≡ len
+part-size s start len k = rw (part-within s start len k, length-take, length-drop) (omega arith)
+
+-- the bytes are what stands before it, the data, and the rest
+around : (s : List ℕ) (start len : ℕ) → start + len ≤ length s → take start s ++ (partOf s start len ++ drop (start + len) s) ≡ s
+around s start len k = rw (part-within s start len k, ← drop-drop len start s, take-append-drop len (drop start s)) (take-append-drop start s)
 
 -- ---- ChannelData
 
 module _ (s : List ℕ) (h : Bytes s) (k : 4 + num s 2 2 ≤ length s) where
-  channel-made : length s ≡ 4 + num s 2 2 → channelData (num s 0 2) (part s 4 (num s 2 2)) ≡ s
+  channel-made : length s ≡ 4 + num s 2 2 → channelData (num s 0 2) (partOf s 4 (num s 2 2)) ≡ s
   unfolding channelData rewritten bytesOf
   channel-made e =
-      let p = part s 4 (num s 2 2) in
+      let p = partOf s 4 (num s 2 2) in
       let q : rewritten (2 ∷ 2 ∷ []) s 0 ≡ take 4 s = rewritten-is (2 ∷ 2 ∷ []) s 0 h (omega arith) in
       let r : drop (4 + num s 2 2) s ≡ [] = drop-of-length-le s {i = 4 + num s 2 2} (omega arith) in
-      rw (part-size s 4 (num s 2 2) k) (ap (λ (x : List ℕ). x ++ p) q ∙ rw (r, append-nil) at (around s 4 (num s 2 2)))
+      rw (part-size s 4 (num s 2 2) k) (ap (λ (x : List ℕ). x ++ p) q ∙ rw (r, append-nil) at (around s 4 (num s 2 2) k))
 
-  pub channel-same : (len : ℕ) → len ≡ num s 2 2 → eqb (length s) (4 + len) ≡ sameBytes (channelData (num s 0 2) (part s 4 (num s 2 2))) s
+  pub channel-same : (len : ℕ) → len ≡ num s 2 2 → eqb (length s) (4 + len) ≡ sameBytes (channelData (num s 0 2) (partOf s 4 (num s 2 2))) s
   unfolding channelData bytesOf
   channel-same len l = is-same _ _ _
       (λ t. channel-made (eqb-true _ _ t ∙ ap (λ (n : ℕ). 4 + n) l), λ e. eq-eqb (length s) (4 + len) (omega (arith, ap length e, part-size s 4 (num s 2 2) k)))
@@ -87,7 +91,7 @@ module _ (s : List ℕ) (h : Bytes s) (k : 4 + num s 2 2 ≤ length s) where
 
 module _ (s : List ℕ) (h : Bytes s) (len pad : ℕ) (l : len ≡ num s 34 2) (p : pad ≡ padding len) (few : len ≤ 1500) (k : 36 + len ≤ length s) where
   abbrev payload : List ℕ
-  payload = part s 36 len
+  payload = partOf s 36 len
 
   abbrev peer : ℕ
   peer = bitXor (num s 28 4) 0x2112_a442
@@ -126,7 +130,7 @@ module _ (s : List ℕ) (h : Bytes s) (len pad : ℕ) (l : len ≡ num s 34 2) (
       let head = rewritten-is (2 ∷ 2 ∷ 4 ∷ 4 ∷ 4 ∷ 4 ∷ 2 ∷ 2 ∷ 2 ∷ 2 ∷ 4 ∷ 2 ∷ 2 ∷ []) s 0 h (omega arith) in
       let told = rw (eqb-true (num s 0 2) 0x0017 (kinds .0), m, eqb-true (num s 4 4) 0x2112_a442 (a .0), eqb-true (num s 20 2) 0x0012 (address .0), eqb-true (num s 22 2) 8 (family .0), eqb-true (num s 24 2) 1 (family .1), eqb-true (num s 32 2) 0x0013 (kinds .1), n) at head in
       rw (xor-twice (num s 26 2) 0x2112, xor-twice (num s 28 4) 0x2112_a442)
-      (ap (λ (x : List ℕ). x ++ (payload ++ zeros)) told ∙ rw (sym padded ∙ z) (around s 36 len))
+      (ap (λ (x : List ℕ). x ++ (payload ++ zeros)) told ∙ rw (sym padded ∙ z) (around s 36 len k))
 
   module _ (e : made ≡ s) where
     number : (at w : ℕ) → num s at w ≡ num made at w

@@ -1,41 +1,61 @@
--- The reader is exact: it gives the fields of a message exactly where writing those fields makes the bytes. It reads back each message
--- that the relay writes.
-use Prim.Native.Nat.{ℕ, _^_, _≤_, _<_}
+-- The reader is exact: it gives the fields of a message exactly where writing those fields makes the bytes.
+use Prim.Native.Nat.{ℕ, _+_, _^_, _≤_, _<_}
 use mathlib.Core.Path.{_≡_, refl, sym, ap, ap₂, subst, _∙_}
+use mathlib.Core.Logic.{_⊎_, inl, inr}
 use mathlib.Core.List.{List}
 use mathlib.Core.Bool.{Bool, true, false}
-use lib.ListN.{length, take, replicate}
+use native.Mathlib.Omega.{arith}
+use lib.ListN.{length, replicate, length-append}
 use lib.Seq.{take-at, take-length}
-use Rattle.wire.specs.Wire.{bytesOf}
-use Rattle.address.specs.declared.Peer.{Peer}
+use Rattle.wire.specs.Wire.{bytesOf, partOf}
+use Rattle.address.specs.declared.TransportAddress.{TransportAddress}
 use Rattle.address.specs.declared.TransactionId.{TransactionId}
 use Rattle.stun.specs.declared.kinds.Method.{Method}
-use Rattle.messages.specs.Messages.{padding, allocateSuccess, refreshSuccess, bareSuccess, errorResponse, unknownResponse, dataIndication, channelData}
+use Rattle.messages.specs.Messages.{padding, allocateSuccess, refreshSuccess, bareSuccess, dataIndication, channelData}
 use Rattle.client_reader.specs.declared.Message.{Message}
 use Rattle.client_reader.specs.declared.Message.the-variants.{AllocateSuccess, RefreshSuccess, BareSuccess, Error, UnknownAttributes, DataIndication, ChannelData, Nothing}
 use Rattle.client_reader.specs.declared.ReadMessage.{ReadMessage}
-use Rattle.client_reader.specs.Fields.{part, writtenOf, written, noTypes, IdFits, AddressFits, IsBare, TypesInRange, RangesOf, InRange, IsMessage, Bytes, Exact}
-use Rattle.client_reader.specs.Reader.{plain, when, fieldsOf, sameBytes, checked, readOf}
+use Rattle.client_reader.specs.Fields.{writtenOf, written, noTypes, IdFits, AddressFits, IsBare, RangesOf, InRange, IsMessage, Bytes, plain, nothing, Exact}
+use Rattle.client_reader.specs.Inner.{when, fieldsOf, sameBytes, checked}
+use Rattle.client_reader.specs.Reader.{messageIn}
 use Rattle.client_reader.proofs.Same.{bytes-same, same-bytes}
-use Rattle.client_reader.proofs.Around.{part-size}
+use Rattle.client_reader.proofs.Around.{part-within, part-size}
 use Rattle.client_reader.proofs.Round.{allocate-back, refresh-back, bare-back, error-back, unknown-back, indication-back, channel-back}
 use Rattle.client_reader.proofs.Ranges.{in-range}
 
 -- ---- What is read was written
 
-sound : (s : List ℕ) → Bytes s → IsMessage (readOf s) → InRange (readOf s) s × (written (readOf s) s ≡ s)
-unfolding readOf checked
-sound s h is = go (sameBytes (written (fieldsOf s) s) s) refl is
+-- a reader gives a message or none
+message-or-none : (message : Message) → (message ≡ Nothing) ⊎ (message ≡ Nothing → ⊥)
+message-or-none (AllocateSuccess id relay port seconds client) = inr (λ e. let z : _≡_ {A = ℕ} 0 1 = cc in omega arith)
+message-or-none (RefreshSuccess id seconds) = inr (λ e. let z : _≡_ {A = ℕ} 0 1 = cc in omega arith)
+message-or-none (BareSuccess method id) = inr (λ e. let z : _≡_ {A = ℕ} 0 1 = cc in omega arith)
+message-or-none (Error method id code) = inr (λ e. let z : _≡_ {A = ℕ} 0 1 = cc in omega arith)
+message-or-none (UnknownAttributes method id count) = inr (λ e. let z : _≡_ {A = ℕ} 0 1 = cc in omega arith)
+message-or-none (DataIndication id peer port start len) = inr (λ e. let z : _≡_ {A = ℕ} 0 1 = cc in omega arith)
+message-or-none (ChannelData number start len) = inr (λ e. let z : _≡_ {A = ℕ} 0 1 = cc in omega arith)
+message-or-none Nothing = inl refl
+
+none-in-range : (s : List ℕ) (m : ReadMessage) → m .message ≡ Nothing → InRange m s → m ≡ nothing
+none-in-range s m n r =
+    let types : m .types ≡ noTypes = subst (λ (x : Message). RangesOf x (m .types) s) n r in
+    λ i. record { message = n i; types = types i }
+
+-- fields in range that make the bytes, or nothing
+sound : (s : List ℕ) → Bytes s → (messageIn s ≡ nothing) ⊎ (IsMessage (messageIn s) × InRange (messageIn s) s × (written (messageIn s) s ≡ s))
+unfolding messageIn checked
+sound s h = go (sameBytes (written (fieldsOf s) s) s) refl (message-or-none (fieldsOf s .message))
   where
-    go : (b : Bool) → sameBytes (written (fieldsOf s) s) s ≡ b → IsMessage (when b (fieldsOf s))
-        → InRange (when b (fieldsOf s)) s × (written (when b (fieldsOf s)) s ≡ s)
-    go true e is = (in-range s h, bytes-same (written (fieldsOf s) s) s e)
-    go false e is = absurd (is refl)
+    go : (b : Bool) → sameBytes (written (fieldsOf s) s) s ≡ b → (fieldsOf s .message ≡ Nothing) ⊎ IsMessage (fieldsOf s)
+        → (when b (fieldsOf s) ≡ nothing) ⊎ (IsMessage (when b (fieldsOf s)) × InRange (when b (fieldsOf s)) s × (written (when b (fieldsOf s)) s ≡ s))
+    go true e (inr is) = inr (is, in-range s h, bytes-same (written (fieldsOf s) s) s e)
+    go true e (inl n) = inl (none-in-range s (fieldsOf s) n (in-range s h))
+    go false e is = inl refl
 
 -- ---- What was written is read
 
-read-by : (s : List ℕ) {m : ReadMessage} → fieldsOf s ≡ m → written m s ≡ s → readOf s ≡ m
-unfolding readOf checked
+read-by : (s : List ℕ) {m : ReadMessage} → fieldsOf s ≡ m → written m s ≡ s → messageIn s ≡ m
+unfolding messageIn checked
 read-by s e w = rw (e, w, same-bytes s)
 
 no-types : {message : Message} {types : List ℕ} → types ≡ noTypes → plain message ≡ record { message = message; types = types }
@@ -53,69 +73,98 @@ back s (UnknownAttributes method id count) types is r = unknown-back id (r .0) m
 back s (DataIndication id peer port start len) types is r =
     let d = r .3 in
     let n = part-size s start len (d .within) in
-    indication-back id (r .0) peer port (part s start len) (r .1) (r .2) (rw n (d .few))
+    indication-back id (r .0) peer port (partOf s start len) (r .1) (r .2) (rw n (d .few))
     ∙ ap₂ (λ (from size : ℕ). plain (DataIndication id peer port from size)) (sym (d .from)) n
     ∙ no-types (r .4)
 back s (ChannelData number start len) types is r =
     let d = r .2 in
     let n = part-size s start len (d .within) in
-    channel-back number (part s start len) (r .0) (r .1) (rw n (d .few))
+    channel-back number (partOf s start len) (r .0) (r .1) (rw n (d .few))
     ∙ ap₂ (λ (from size : ℕ). plain (ChannelData number from size)) (sym (d .from)) n
     ∙ no-types (r .3)
 back s Nothing types is r = absurd (is refl)
 
-complete : (s : List ℕ) (m : ReadMessage) → IsMessage m → InRange m s → written m s ≡ s → readOf s ≡ m
-complete s m is r w = read-by s (ap fieldsOf (sym w) ∙ back s (m .message) (m .types) is r) w
+-- fields in range are read back from the bytes that they make
+pub written-read : (s : List ℕ) (m : ReadMessage) → IsMessage m → InRange m s → written m s ≡ s → messageIn s ≡ m
+written-read s m is r w = read-by s (ap fieldsOf (sym w) ∙ back s (m .message) (m .types) is r) w
 
 -- ---- The theorems
 
--- 'exactly when writing those fields makes those bytes'
-pub exact : (s : List ℕ) → Bytes s → Exact s (readOf s)
-exact s h m is = (
-  λ e. subst (λ (x : ReadMessage). InRange x s × (written x s ≡ s)) e (sound s h (subst IsMessage (sym e) is)),
-  λ p. complete s m is (p .0) (p .1),
-)
-
--- 'otherwise it says none'
-pub none : (s : List ℕ) → Bytes s → ((m : ReadMessage) → IsMessage m → InRange m s → written m s ≡ s → ⊥) → IsMessage (readOf s) → ⊥
-none s h never is = let p = sound s h is in never (readOf s) is (p .0) (p .1)
-
 -- no bytes are made by two messages
 pub unique : (s : List ℕ) (m n : ReadMessage) → IsMessage m → IsMessage n → InRange m s → InRange n s → written m s ≡ s → written n s ≡ s → m ≡ n
-unique s m n a b p q v w = sym (complete s m a p v) ∙ complete s n b q w
+unique s m n a b p q v w = sym (written-read s m a p v) ∙ written-read s n b q w
 
--- ---- Each message that the relay writes is read
+-- a message in range is what its own bytes are read as
+pub message-exact : (s : List ℕ) (m : ReadMessage) → IsMessage m → InRange m s → written m s ≡ s → Exact s m
+message-exact s m is r w = record {
+  exactly = λ n is-n. (
+    λ e. subst (λ (x : ReadMessage). InRange x s × (written x s ≡ s)) e (r, w),
+    λ p. unique s m n is is-n r (p .0) w (p .1),
+  );
+  none = λ never. absurd (never m is r w);
+}
+
+-- and what no message makes as none
+nothing-exact : (s : List ℕ) → ((m : ReadMessage) → IsMessage m → InRange m s → written m s ≡ s → ⊥) → Exact s nothing
+nothing-exact s never = record {
+  exactly = λ m is. (λ e. absurd (is (ap (λ (x : ReadMessage). x .message) (sym e))), λ p. absurd (never m is (p .0) (p .1)));
+  none = λ n. refl;
+}
+
+-- the reader's sentence, of any bytes
+pub exact : (s : List ℕ) → Bytes s → Exact s (messageIn s)
+exact s h = go (sound s h)
+  where
+    go : (messageIn s ≡ nothing) ⊎ (IsMessage (messageIn s) × InRange (messageIn s) s × (written (messageIn s) s ≡ s)) → Exact s (messageIn s)
+    go (inl e) = rw e (nothing-exact s (λ m is r w. is (ap (λ (x : ReadMessage). x .message) (sym (written-read s m is r w) ∙ e))))
+    go (inr p) = message-exact s (messageIn s) (p .0) (p .1) (p .2)
+
+-- what a function gives that reads so
+pub exact-as : (s : List ℕ) {r : ReadMessage} → Bytes s → r ≡ messageIn s → Exact s r
+exact-as s h e = rw e (exact s h)
+
+-- bytes are read in one way
+pub one-reading : (s : List ℕ) (q r : ReadMessage) → Exact s q → Exact s r → q ≡ r
+one-reading s q r x y = go (message-or-none (q .message))
+  where
+    go : (q .message ≡ Nothing) ⊎ IsMessage q → q ≡ r
+    go (inr is) = sym (y .exactly q is .1 (x .exactly q is .0 refl))
+    go (inl n) =
+        let never : (m : ReadMessage) → IsMessage m → InRange m s → written m s ≡ s → ⊥ =
+        λ m is p w. is (ap (λ (a : ReadMessage). a .message) (sym (x .exactly m is .1 (p, w))) ∙ n) in
+        x .none never ∙ sym (y .none never)
+
+-- ---- The data is shown byte for byte
+
+pub indication-within : (id : TransactionId) (peer port : ℕ) (payload : List ℕ) → 36 + length payload ≤ length (dataIndication id peer port payload)
+unfolding dataIndication bytesOf
+indication-within id peer port payload = omega (arith, length-append payload (replicate (padding (length payload)) 0))
+
+pub indication-data : (id : TransactionId) (peer port : ℕ) (payload : List ℕ) → partOf (dataIndication id peer port payload) 36 (length payload) ≡ payload
+unfolding dataIndication bytesOf
+indication-data id peer port payload =
+    part-within (dataIndication id peer port payload) 36 (length payload) (indication-within id peer port payload)
+    ∙ take-at payload (replicate (padding (length payload)) 0) (length payload) refl
+
+pub channel-within : (number : ℕ) (payload : List ℕ) → 4 + length payload ≤ length (channelData number payload)
+unfolding channelData bytesOf
+channel-within number payload = omega arith
+
+pub channel-data : (number : ℕ) (payload : List ℕ) → partOf (channelData number payload) 4 (length payload) ≡ payload
+unfolding channelData bytesOf
+channel-data number payload = part-within (channelData number payload) 4 (length payload) (channel-within number payload) ∙ take-length payload
+
+-- ---- What a success is read as
 
 module _ (id : TransactionId) (h : IdFits id) where
-  pub read-allocate : (relay port seconds : ℕ) (client : Peer) → relay < 2 ^ 32 → port < 2 ^ 16 → seconds < 2 ^ 32
+  pub read-allocate : (relay port seconds : ℕ) (client : TransportAddress) → relay < 2 ^ 32 → port < 2 ^ 16 → seconds < 2 ^ 32
       → AddressFits (client .address) → client .port < 2 ^ 16
-      → readOf (allocateSuccess id relay port seconds client) ≡ plain (AllocateSuccess id relay port seconds client)
+      → messageIn (allocateSuccess id relay port seconds client) ≡ plain (AllocateSuccess id relay port seconds client)
   read-allocate relay port seconds client hr hp hs ha hq =
       read-by (allocateSuccess id relay port seconds client) (allocate-back id h relay port seconds hr hp hs (client .address) (client .port) ha hq) refl
 
-  pub read-refresh : (seconds : ℕ) → seconds < 2 ^ 32 → readOf (refreshSuccess id seconds) ≡ plain (RefreshSuccess id seconds)
+  pub read-refresh : (seconds : ℕ) → seconds < 2 ^ 32 → messageIn (refreshSuccess id seconds) ≡ plain (RefreshSuccess id seconds)
   read-refresh seconds hs = read-by (refreshSuccess id seconds) (refresh-back id h seconds hs) refl
 
-  pub read-bare : (method : Method) → IsBare method → readOf (bareSuccess method id) ≡ plain (BareSuccess method id)
+  pub read-bare : (method : Method) → IsBare method → messageIn (bareSuccess method id) ≡ plain (BareSuccess method id)
   read-bare method b = read-by (bareSuccess method id) (bare-back id h method b) refl
-
-  pub read-error : (method : Method) (code : ℕ) → 300 ≤ code → code ≤ 699 → (code ≡ 420 → ⊥)
-      → readOf (errorResponse method id code) ≡ plain (Error method id code)
-  read-error method code low high other = read-by (errorResponse method id code) (error-back id h method code low high other) refl
-
-  pub read-unknown : (method : Method) (count : ℕ) (types : List ℕ) → TypesInRange count types
-      → readOf (unknownResponse method id (take count types)) ≡ record { message = UnknownAttributes method id count; types = types }
-  read-unknown method count types r = read-by (unknownResponse method id (take count types)) (unknown-back id h method count types r) refl
-
-  pub read-indication : (peer port : ℕ) (payload : List ℕ) → peer < 2 ^ 32 → port < 2 ^ 16 → length payload ≤ 1500
-      → readOf (dataIndication id peer port payload) ≡ plain (DataIndication id peer port 36 (length payload))
-  unfolding dataIndication bytesOf
-  read-indication peer port payload ha hp few =
-      read-by (dataIndication id peer port payload) (indication-back id h peer port payload ha hp few)
-      (ap (dataIndication id peer port) (take-at payload (replicate (padding (length payload)) 0) (length payload) refl))
-
-pub read-channel-data : (number : ℕ) (payload : List ℕ) → 0x4000 ≤ number → number ≤ 0x4fff → length payload ≤ 1500
-    → readOf (channelData number payload) ≡ plain (ChannelData number 4 (length payload))
-unfolding channelData bytesOf
-read-channel-data number payload low high few =
-    read-by (channelData number payload) (channel-back number payload low high few) (ap (channelData number) (take-length payload))

@@ -24,8 +24,8 @@ use Rattle.client_reader.proofs.Around.{num-lt}
 use Rattle.client_reader.proofs.Types.{length-types-from, all-below}
 use Rattle.client_reader.specs.declared.ReadMessage.{ReadMessage}
 use Rattle.client_reader.specs.Fields.{Bytes, IdFits, AddressFits, TypesInRange, DataInRange, InRange}
-use Rattle.table.specs.Table.{isChannelNumber}
-use Rattle.client_reader.specs.Reader.{when, fieldsOf, allocateFields, refreshFields, bareFields, typesFrom, typesOf, allBelow, countFits, unknownFields, codeOf, plainErrorFields, errorFields, dataFits, indicationFields, channelFields, stunFields}
+use Rattle.slot.specs.Slot.{isChannelNumber}
+use Rattle.client_reader.specs.Inner.{when, fieldsOf, allocateFields, refreshFields, bareFields, typesFrom, typesOf, allBelow, countFits, unknownFields, codeOf, plainErrorFields, errorFields, dataFits, indicationFields, channelFields, stunFields}
 
 module _ (s : List ℕ) (h : Bytes s) where
   abbrev Fits : ReadMessage → Type 0
@@ -42,10 +42,10 @@ module _ (s : List ℕ) (h : Bytes s) where
   unfolding transactionId
   id-fits = (num-lt s h 8 4, num-lt s h 12 4, num-lt s h 16 4)
 
-  abbrev ValueFits : AddressValue → Type 0
+  abbrev pub ValueFits : AddressValue → Type 0
   ValueFits v = AddressFits (v .peer .address) × (v .peer .port < 2 ^ 16)
 
-  address-fits : (at len : ℕ) → ValueFits (addressAt s at len)
+  pub address-fits : (at len : ℕ) → ValueFits (addressAt s at len)
   unfolding addressAt v4At v6At
   address-fits at len = go (both (eqb len 8) (eqb (getD s (at + 1) 0) 1)) (both (eqb len 20) (eqb (getD s (at + 1) 0) 2))
     where

@@ -1,5 +1,5 @@
 -- The fields of each message come back from its bytes.
-use Prim.Native.Nat.{ℕ, _+_, _-_, _*_, _/_, _%_, _^_, _≤_, _<_}
+use Prim.Native.Nat.{ℕ, _+_, _*_, _/_, _%_, _^_, _≤_, _<_}
 use mathlib.Core.Path.{_≡_, refl, ap, _∙_}
 use mathlib.Core.List.{List, [], _++_}
 use mathlib.Core.Bool.{true}
@@ -25,8 +25,8 @@ use Rattle.messages.specs.Messages.{messageBytes, padding, addressAttribute, da
 use Rattle.messages.proofs.Laws.{length-first-types}
 use Rattle.client_reader.proofs.Types.{types-append, types-back, below-all}
 use Rattle.client_reader.specs.declared.Message.the-variants.{AllocateSuccess, RefreshSuccess, BareSuccess, Error, UnknownAttributes, DataIndication, ChannelData}
-use Rattle.client_reader.specs.Fields.{IdFits, AddressFits, IsBare, TypesInRange}
-use Rattle.client_reader.specs.Reader.{plain, fieldsOf, allocateFields, refreshFields, bareFields, codeOf, typesFrom, typesOf, countFits, unknownFields, plainErrorFields, errorFields, indicationFields, channelFields, stunFields, dataFits}
+use Rattle.client_reader.specs.Fields.{IdFits, AddressFits, IsBare, TypesInRange, plain}
+use Rattle.client_reader.specs.Inner.{fieldsOf, allocateFields, refreshFields, bareFields, codeOf, typesFrom, typesOf, countFits, unknownFields, plainErrorFields, errorFields, indicationFields, channelFields, stunFields, dataFits}
 
 -- a word that is XORed with another word of the message
 xor-back : (n key : ℕ) → n < 2 ^ 32 → key < 2 ^ 32 → bitXor (num (bytesOf 4 (bitXor n key)) 0 4) (num (bytesOf 4 key) 0 4) ≡ n

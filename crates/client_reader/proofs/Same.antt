@@ -7,10 +7,10 @@ use lib.ListN.{length, take, drop}
 use lib.Seq.{take-at}
 use borrow.Author.Tests.{eqb-true, eq-eqb}
 use Rattle.choice.proofs.Laws.{both-parts, both-true}
-use Rattle.messages.specs.Messages.{Sent}
+use Rattle.messages.specs.Inner.{Sent}
 use Rattle.client_reader.specs.declared.ReadMessage.{ReadMessage}
-use Rattle.client_reader.specs.Fields.{written}
-use Rattle.client_reader.specs.Reader.{nothing, when, sameBytes, checked}
+use Rattle.client_reader.specs.Fields.{written, nothing}
+use Rattle.client_reader.specs.Inner.{when, sameBytes, checked}
 
 -- ---- The test of equality says equality
 

@@ -15,7 +15,7 @@ use Rattle.wire.proofs.Laws.{num-written, num-append}
 use Rattle.choice.specs.Choice.{both}
 use Rattle.choice.proofs.Laws.{both-parts, both-true}
 use Rattle.messages.specs.Messages.{typesBytes}
-use Rattle.client_reader.specs.Reader.{typesFrom, typesOf, allBelow}
+use Rattle.client_reader.specs.Inner.{typesFrom, typesOf, allBelow}
 
 -- ---- Read one by one
 

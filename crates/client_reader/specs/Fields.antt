@@ -6,6 +6,7 @@ use mathlib.Core.Path.{_≡_}
 use mathlib.Core.Logic.{_↔_}
 use mathlib.Core.List.{List, []}
 use lib.ListN.{length, getD, take, drop, replicate}
+use Rattle.wire.specs.Wire.{partOf}
 use Rattle.address.specs.declared.Address.{Address}
 use Rattle.address.specs.declared.Address.the-variants.{V4, V6}
 use Rattle.address.specs.declared.TransactionId.{TransactionId}
@@ -18,22 +19,30 @@ use Rattle.client_reader.specs.declared.ReadMessage.{ReadMessage}
 
 -- ---- The bytes that the fields make
 
--- the data of a message lies in the bytes themselves: len of them, from start on
-abbrev pub part : List ℕ → ℕ → ℕ → List ℕ
-part s start len = take len (drop start s)
-
+-- what the fields of a message make; its data, len bytes from start on, lies in the bytes s that it was read from
 abbrev pub writtenOf : Message → List ℕ → List ℕ → List ℕ
 writtenOf (AllocateSuccess id relay port seconds client) types s = allocateSuccess id relay port seconds client
 writtenOf (RefreshSuccess id seconds) types s = refreshSuccess id seconds
 writtenOf (BareSuccess method id) types s = bareSuccess method id
 writtenOf (Error method id code) types s = errorResponse method id code
 writtenOf (UnknownAttributes method id count) types s = unknownResponse method id (take count types)
-writtenOf (DataIndication id peer port start len) types s = dataIndication id peer port (part s start len)
-writtenOf (ChannelData number start len) types s = channelData number (part s start len)
+writtenOf (DataIndication id peer port start len) types s = dataIndication id peer port (partOf s start len)
+writtenOf (ChannelData number start len) types s = channelData number (partOf s start len)
 writtenOf Nothing types s = []
 
 abbrev pub written : ReadMessage → List ℕ → List ℕ
 written m s = writtenOf (m .message) (m .types) s
+
+-- the data that a message shows, a part of the bytes s that it was read from; other messages show none
+abbrev pub dataOf : Message → List ℕ → List ℕ
+dataOf (AllocateSuccess id relay port seconds client) s = []
+dataOf (RefreshSuccess id seconds) s = []
+dataOf (BareSuccess method id) s = []
+dataOf (Error method id code) s = []
+dataOf (UnknownAttributes method id count) s = []
+dataOf (DataIndication id peer port start len) s = partOf s start len
+dataOf (ChannelData number start len) s = partOf s start len
+dataOf Nothing s = []
 
 -- ---- The ranges of the fields
 
@@ -88,12 +97,22 @@ InRange m s = RangesOf (m .message) (m .types) s
 
 -- ---- Exact reading
 
+-- a message that carries no types
+abbrev pub plain : Message → ReadMessage
+plain message = record { message = message; types = noTypes }
+
+abbrev pub nothing : ReadMessage
+nothing = plain Nothing
+
 abbrev pub IsMessage : ReadMessage → Type 0
 IsMessage m = m .message ≡ Nothing → ⊥
 
--- 'gives the fields .. exactly when writing those fields makes those bytes': r, read from s, is a message m just where m is in range and makes s
-abbrev pub Exact : List ℕ → ReadMessage → Type 0
-Exact s r = (m : ReadMessage) → IsMessage m → (r ≡ m) ↔ (InRange m s × (written m s ≡ s))
+-- r is what the bytes s are read as
+pub record Exact (s : List ℕ) (r : ReadMessage) : Type 0 where
+  -- it 'gives the fields .. exactly when writing those fields makes those bytes'
+  pub exactly : (m : ReadMessage) → IsMessage m → (r ≡ m) ↔ (InRange m s × (written m s ≡ s))
+  -- 'otherwise it says none'
+  pub none : ((m : ReadMessage) → IsMessage m → InRange m s → written m s ≡ s → ⊥) → r ≡ nothing
 
 -- what is known of the bytes of a slice
 abbrev pub Bytes : List ℕ → Type 0

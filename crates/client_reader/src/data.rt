@@ -17,8 +17,8 @@ ghost use mathlib.Core.Path.{_≡_};
 ghost use Prim.Native.Nat.{_+_, _≤_, _<_};
 ghost use lib.ListN.{length};
 ghost use Rattle.wire.specs.Wire.{num};
-ghost use Rattle.client_reader.specs.Fields.{written};
-ghost use Rattle.client_reader.specs.Reader.{plain, checked, dataFits, sameBytes, indicationHead, indicationOf, indicationFields, channelFields};
+ghost use Rattle.client_reader.specs.Fields.{written, plain};
+ghost use Rattle.client_reader.specs.Inner.{checked, dataFits, sameBytes, indicationHead, indicationOf, indicationFields, channelFields};
 
 fn data_fits(start: usize, len: usize, s: &[u8]) -> bool
     requires { ⌜ (start ≤ 36) × (len < 65536) ⌝ }
@@ -58,7 +58,7 @@ fn is_indication(s: &[u8], len: usize) -> bool
     both(indication_head(s), padded)
 }
 
-pub fn indication(s: &[u8]) -> ReadMessage
+pub(crate) fn indication(s: &[u8]) -> ReadMessage
     ensures { λ r. ⌜ r ≡ checked (indicationFields (now (s .entry))) (now (s .entry)) ⌝ }
 {
     if s.len() < 36 {
@@ -78,7 +78,7 @@ pub fn indication(s: &[u8]) -> ReadMessage
     nothing()
 }
 
-pub fn channel_data(s: &[u8]) -> ReadMessage
+pub(crate) fn channel_data(s: &[u8]) -> ReadMessage
     requires { ⌜ 4 ≤ length (now s) ⌝ }
     ensures { λ r. ⌜ r ≡ checked (channelFields (now (s .entry))) (now (s .entry)) ⌝ }
 {

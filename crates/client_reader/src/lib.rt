@@ -4,16 +4,17 @@
 mod data;
 mod responses;
 
-use address::Peer;
 use address::TransactionId;
+use address::TransportAddress;
+use slot::channels::is_channel_number;
 use stun::kinds::MessageKind;
 use stun::kinds::Method;
-use table::channels::is_channel_number;
 use wire::u16_at;
 ghost use mathlib.Core.Path.{_≡_};
 ghost use Prim.Native.Nat.{_≤_};
 ghost use lib.ListN.{length};
-ghost use Rattle.client_reader.specs.Reader.{plain, nothing, when, checked, stunFields, readOf};
+ghost use Rattle.client_reader.specs.Fields.{plain, nothing, Exact};
+ghost use Rattle.client_reader.specs.Inner.{when, checked, stunFields};
 
 pub enum Message {
     AllocateSuccess {
@@ -22,7 +23,7 @@ pub enum Message {
         relay: u32,
         port: u16,
         seconds: u32,
-        client: Peer,
+        client: TransportAddress,
     },
     RefreshSuccess {
         id: TransactionId,
@@ -106,7 +107,7 @@ fn stun_message(s: &[u8], kind: MessageKind) -> ReadMessage
 
 // The fields exactly where writing them makes the bytes; else Nothing.
 pub fn read_message(s: &[u8]) -> ReadMessage
-    ensures { λ r. ⌜ r ≡ readOf (now (s .entry)) ⌝ }
+    ensures { λ r. ⌜ Exact (now (s .entry)) r ⌝ }
 {
     if s.len() < 4 {
         return nothing();

@@ -23,7 +23,7 @@ use wire::xor_u32;
 ghost use mathlib.Core.Path.{_≡_};
 ghost use Prim.Native.Nat.{_+_, _*_, _≤_, _<_};
 ghost use lib.ListN.{length};
-ghost use Rattle.client_reader.specs.Reader.{checked, allocateFields, refreshFields, bareFields, successFields, typesOf, allBelow, countFits, unknownOf, unknownFields, codeOf, plainErrorFields, errorFields};
+ghost use Rattle.client_reader.specs.Inner.{checked, allocateFields, refreshFields, bareFields, successFields, typesOf, allBelow, countFits, unknownOf, unknownFields, codeOf, plainErrorFields, errorFields};
 
 // ---- Success
 
@@ -75,7 +75,7 @@ fn bare_success(s: &[u8], method: Method) -> ReadMessage
     read_if(same(&made[..n], s), plain(message))
 }
 
-pub fn success(s: &[u8], method: Method) -> ReadMessage
+pub(crate) fn success(s: &[u8], method: Method) -> ReadMessage
     requires { ⌜ 20 ≤ length (now s) ⌝ }
     ensures { λ r. ⌜ r ≡ checked (successFields method (now (s .entry))) (now (s .entry)) ⌝ }
 {
@@ -167,7 +167,7 @@ fn plain_error(s: &[u8], method: Method, code: u16) -> ReadMessage
     nothing()
 }
 
-pub fn error(s: &[u8], method: Method) -> ReadMessage
+pub(crate) fn error(s: &[u8], method: Method) -> ReadMessage
     ensures { λ r. ⌜ r ≡ checked (errorFields method (now (s .entry))) (now (s .entry)) ⌝ }
 {
     if s.len() < 28 {

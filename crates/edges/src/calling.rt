@@ -8,24 +8,23 @@ use crate::fields::number_u16;
 use crate::fields::number_u32;
 use crate::fields::peer;
 use crate::fields::stop;
-use crate::lent::sixty_five;
-use crate::lent::sixty_three;
+use crate::lent::not_sixty_four;
 use crate::printing::write;
 use crate::printing::write_byte;
 use crate::printing::write_number;
 use crate::printing::write_outcome;
 use address::Address;
 use address::FiveTuple;
-use address::Peer;
 use address::TransactionId;
+use address::TransportAddress;
+use interface::incoming::Call;
+use interface::incoming::call_of_client;
+use interface::incoming::call_of_peer;
 use relay::Held;
 use relay::held_datagram;
-use relay::incoming::Call;
-use relay::incoming::call_of_client;
-use relay::incoming::call_of_peer;
 use relay::state::Bookkeeping;
 use rules::answer::Outcome;
-use table::fresh_slot;
+use slot::fresh_slot;
 
 // What the calls after a `W` line bring besides: how long the reply is, how many slots are lent, the protocol and the server's port of
 // the 5-tuple, and how long the datagram is; where that is 0, as long as its bytes.
@@ -109,22 +108,6 @@ fn write_case<'a>(line: &[u8], after: Held, datagram: &'a [u8], reply: &'a [u8])
     write_byte(b'\n');
 }
 
-// The entry over a fresh table that has not 64 slots.
-fn over_others(
-    kept: Bookkeeping,
-    slots: usize,
-    call: Call,
-    datagram: &[u8],
-    reply: &mut [u8],
-) -> Outcome {
-    if slots == 63 {
-        let table = [fresh_slot(); 63];
-        return sixty_three(table, kept, call, datagram, reply);
-    }
-    let table = [fresh_slot(); 65];
-    sixty_five(table, kept, call, datagram, reply)
-}
-
 // The entry over the table, or where the setting says 63 or 65 slots, over a fresh one of so many.
 fn answered(held: Held, slots: usize, call: Call, datagram: &[u8], reply: &mut [u8]) -> Held {
     let table = held.slots;
@@ -132,7 +115,14 @@ fn answered(held: Held, slots: usize, call: Call, datagram: &[u8], reply: &mut [
     if slots == 64 {
         return held_datagram(table, bookkeeping, call, datagram, reply);
     }
-    let outcome = over_others(bookkeeping, slots, call, datagram, reply);
+    let outcome = not_sixty_four(
+        slots == 65,
+        fresh_slot(),
+        bookkeeping,
+        call,
+        datagram,
+        reply,
+    );
     Held {
         slots: table,
         bookkeeping,
@@ -178,7 +168,7 @@ fn carried(held: Held, setting: Setting, call: Call, line: &[u8], k: usize) -> H
 }
 
 pub(crate) fn from_client(held: Held, setting: Setting, line: &[u8]) -> Held {
-    let server = Peer {
+    let server = TransportAddress {
         address: Address::V4(0xcb007105),
         port: setting.server,
     };

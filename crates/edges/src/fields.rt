@@ -1,6 +1,6 @@
 // The fields of a line, which tabs part. A field that isn't there is an empty one.
 use address::Address;
-use address::Peer;
+use address::TransportAddress;
 use text::Parsed;
 use text::read_decimal;
 use text::read_hex_bytes;
@@ -106,10 +106,10 @@ pub(crate) fn address(line: &[u8], k: usize) -> Address {
 }
 
 // The address in one field and the port in another.
-pub(crate) fn peer(line: &[u8], address_field: usize, port_field: usize) -> Peer {
+pub(crate) fn peer(line: &[u8], address_field: usize, port_field: usize) -> TransportAddress {
     let address = address(line, address_field);
     let port = number_u16(line, port_field);
-    Peer { address, port }
+    TransportAddress { address, port }
 }
 
 // The bytes of a field in hex, put at the front; how many they are.

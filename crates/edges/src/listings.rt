@@ -4,25 +4,20 @@ use crate::calling::is_untouched;
 use crate::calling::write_name;
 use crate::fields::number;
 use crate::lent::list_held;
-use crate::lent::list_sixty_three;
 use crate::printing::write;
 use crate::printing::write_byte;
 use crate::printing::write_count;
 use crate::printing::write_lettered;
 use listing::Listed;
 use relay::Held;
-use table::fresh_slot;
+use slot::fresh_slot;
 
 // The entry over the table, or where the setting says 63 slots, over a fresh one of so many.
 fn listed(held: Held, slots: usize, output: &mut [u8]) -> Listed {
     let kept = held.bookkeeping;
     let clock = kept.clock;
-    if slots == 64 {
-        let table = held.slots;
-        return list_held(table, clock, output);
-    }
-    let table = [fresh_slot(); 63];
-    list_sixty_three(table, clock, output)
+    let table = held.slots;
+    list_held(slots == 64, table, fresh_slot(), clock, output)
 }
 
 // The same with the first bytes of the output.

@@ -1,10 +1,10 @@
 // What is printed: numbers, addresses, data, and what a message that goes to a client is by the clients' reader.
 use address::Address;
-use address::Peer;
+use address::TransportAddress;
 use client_reader::Message;
 use client_reader::read_message;
+use interface::sending::what_to_send;
 use libc::STDOUT_FILENO;
-use relay::sending::what_to_send;
 use rules::answer::Outcome;
 use stun::kinds::Method;
 
@@ -59,7 +59,7 @@ pub(crate) fn write_address(address: Address) {
 }
 
 // A blank, the address, a blank and the port.
-pub(crate) fn write_peer(peer: Peer) {
+pub(crate) fn write_peer(peer: TransportAddress) {
     write_byte(b' ');
     let address = peer.address;
     write_address(address);
@@ -104,7 +104,7 @@ fn write_method(method: Method) {
     }
 }
 
-fn write_allocated(port: u16, seconds: u32, client: Peer) {
+fn write_allocated(port: u16, seconds: u32, client: TransportAddress) {
     write_number(b"Allocate success, port ", port as u64);
     write_number(b", seconds ", seconds as u64);
     write(b", client");
@@ -126,7 +126,7 @@ fn write_unknown(count: usize, types: [u16; 16]) {
 fn write_indication(peer: u32, port: u16, data: &[u8]) {
     let address = Address::V4(peer);
     write(b"Data indication from");
-    write_peer(Peer { address, port });
+    write_peer(TransportAddress { address, port });
     write_byte(b',');
     write_data(data);
 }

@@ -11,8 +11,8 @@ use crate::printing::write_message;
 use crate::vectors::vectors;
 use address::Address;
 use address::FiveTuple;
-use address::Peer;
-use relay::sending::what_to_send;
+use address::TransportAddress;
+use interface::sending::what_to_send;
 use rules::answer::Outcome;
 
 // What an outcome shows of a datagram and a reply of eight bytes each.
@@ -22,9 +22,9 @@ fn write_sent(line: &[u8], outcome: Outcome) {
     write_byte(b'\n');
 }
 
-fn nobody() -> Peer {
+fn nobody() -> TransportAddress {
     let address = Address::V4(0);
-    Peer { address, port: 0 }
+    TransportAddress { address, port: 0 }
 }
 
 // `R` name, number: a refusal; 0 is a drop.

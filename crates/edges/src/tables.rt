@@ -6,19 +6,19 @@ use crate::fields::number_u16;
 use crate::fields::peer;
 use address::Address;
 use address::FiveTuple;
-use address::Peer;
+use address::TransportAddress;
 use relay::Held;
 use relay::state::Bookkeeping;
 use relay::state::fresh_bookkeeping;
 use rules::answer::Outcome;
-use table::Allocation;
-use table::Channel;
-use table::Permission;
-use table::Slot;
-use table::fresh_slot;
-use table::with_allocation;
-use table::with_channels;
-use table::with_permissions;
+use slot::Allocation;
+use slot::Channel;
+use slot::Permission;
+use slot::Slot;
+use slot::fresh_slot;
+use slot::with_allocation;
+use slot::with_channels;
+use slot::with_permissions;
 
 pub(crate) fn empty() -> Held {
     let slots = [fresh_slot(); 64];
@@ -60,7 +60,7 @@ fn with(held: Held, place: usize, slot: Slot) -> Held {
 
 // `A` place, user, client address, client port, relay port, expiry.
 fn allocation(held: Held, line: &[u8]) -> Held {
-    let server = Peer {
+    let server = TransportAddress {
         address: Address::V4(0xcb007105),
         port: 3478,
     };

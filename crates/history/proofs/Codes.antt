@@ -15,13 +15,14 @@ use Rattle.stun.specs.declared.kinds.AttributeKind.the-variants as Is
 use Rattle.stun.specs.declared.message.Attribute.{Attribute}
 use Rattle.stun.specs.Kinds.{attributeKinds, attributeKindOf, unknownKind}
 use Rattle.stun.specs.Message.{attributes, isUnknown, unknownNumbers, unknownTypes}
-use Rattle.address.specs.declared.Peer.{Peer}
-use Rattle.table.specs.declared.Slot.{Slot}
+use Rattle.slot.specs.declared.Slot.{Slot}
 use Rattle.rules.specs.declared.requests.ClientCall.{ClientCall}
-use Rattle.rules.specs.declared.requests.Survey.{Survey}
-use Rattle.rules.specs.Act.{check}
+use Rattle.allocation_rules.specs.declared.Room.{Room}
+use Rattle.rules.specs.Change.{check}
 use Rattle.rules.specs.Values.{anyUnknown}
-use Rattle.rules.specs.Requests.{requestCode, ownCode, allocateCode, refreshCode, createPermissionCode, bindCode, takenCode, channelBindCode}
+use Rattle.rules.specs.Requests.{requestCode, ownCode}
+use Rattle.allocation_rules.specs.Allocations.{allocateCode, refreshCode}
+use Rattle.permission_rules.specs.Permissions.{createPermissionCode, channelBindCode}
 use Rattle.client_reader.specs.Fields.{TypesInRange}
 use Rattle.history.proofs.Tests.{clash}
 
@@ -64,9 +65,9 @@ module _ (s : List ℕ) where
     unfolding ownCode
     owner has slot rest h = request _ (step _ 437 _ refl (step _ 441 _ refl h))
 
-    pub allocate-coded : (survey : Survey) → Coded s (allocateCode call s survey)
+    pub allocate-coded : (room : Room) → Coded s (allocateCode call s room)
     unfolding allocateCode
-    allocate-coded survey =
+    allocate-coded room =
         request _
         (step _ 437 _ refl
         (step _ 400 _ refl
@@ -80,10 +81,9 @@ module _ (s : List ℕ) where
     unfolding createPermissionCode
     permission-coded has slot = owner has slot _ (step _ 400 _ refl (step _ 400 _ refl (step _ 443 _ refl (step _ 508 _ refl none))))
 
-    pub channel-coded : (has : Bool) (slot : Slot) (number : ℕ) (peer : Peer)
-        → Coded s (channelBindCode call s has slot (takenCode (call .time) number peer slot (bindCode (call .time) number peer slot)))
-    unfolding channelBindCode takenCode bindCode
-    channel-coded has slot number peer =
+    pub channel-coded : (has : Bool) (slot : Slot) → Coded s (channelBindCode call s has slot)
+    unfolding channelBindCode
+    channel-coded has slot =
         owner has slot _
         (step _ 400 _ refl
         (step _ 400 _ refl (step _ 400 _ refl (step _ 443 _ refl (step _ 400 _ refl (step _ 400 _ refl (step _ 508 _ refl (step _ 508 _ refl none))))))))

@@ -1,48 +1,78 @@
 -- What demand 3 says in particular.
-use Prim.Native.Nat.{ℕ, _+_, _≤_}
-use mathlib.Core.Path.{_≡_, sym, subst}
-use mathlib.Core.Logic.{_≢_}
-use mathlib.Core.List.{List, [], List·Memᴰ, List·Memᴰ·tail, Memᴰ·append-right}
+use Prim.Native.Nat.{ℕ, _≤_}
+use mathlib.Core.Path.{_≡_, refl, sym, _∙_}
+use mathlib.Core.Logic.{_↔_}
+use mathlib.Core.List.{List, [], _∷_, _++_, List·Memᴰ, List·Memᴰ·head, List·Memᴰ·tail, Memᴰ·append-left}
 use native.Mathlib.Omega.{arith}
 use Rattle.address.specs.declared.Address.{Address}
-use Rattle.address.specs.declared.Address.the-variants.{V4}
+use Rattle.address.specs.declared.Address.the-variants.{V4, V6}
 use Rattle.address.specs.declared.FiveTuple.{FiveTuple}
-use Rattle.rules.specs.declared.answer.Outcome.the-variants.{Refused, Dropped, ToClient}
+use Rattle.rules.specs.declared.answer.Outcome.the-variants.{Dropped}
+use Rattle.relay.specs.State.{State}
 use Rattle.history.specs.Counted.{Counted, allowed}
-use Rattle.relay.specs.State.{empty}
-use Rattle.history.specs.Events.{Arrival, outcome, run, events, counted}
-use Rattle.history.specs.Statement.{GoesTo, FromIpv4}
-use Rattle.history.proofs.Demand.{demand-3}
+use Rattle.history.specs.Events.{Event, Lived, counts, counted}
+use Rattle.history.specs.Statement.{GoesTo, Comes, To, Demand3From}
+use Rattle.history.proofs.Whole.{ipv6-dropped}
+use Rattle.history.proofs.Demand.{lived-middle}
 use Rattle.history.proofs.Own.{about, goes-alike}
 
--- what a list of calls counts as
-abbrev pub told : List Arrival → List Counted
-told calls = counted [] (events empty calls)
-
--- every request of C for address a that the list counts was accepted 300 seconds ago or more
+-- every request of C for address a that was counted has ended at t
 abbrev pub Lapsed : List Counted → FiveTuple → Address → ℕ → Type 0
-Lapsed list C a t = (xs : List Address) (s : ℕ) → List·Memᴰ (allowed C xs s) list → List·Memᴰ a xs → s + 300 ≤ t
+Lapsed past C a t = (xs : List Address) (ends : ℕ) → List·Memᴰ (allowed C xs ends) past → List·Memᴰ a xs → ends ≤ t
 
-lapsed-not : (list : List Counted) (C : FiveTuple) (R : ℕ) (a : Address) (t : ℕ) → Lapsed list C a t → GoesTo list C R a t → ⊥
-lapsed-not list C R a t none g =
+-- none of these events, after what was counted before them, is an accepted request of C for address a
+abbrev pub NoneFor : FiveTuple → Address → List Counted → List Event → Type 0
+NoneFor C a past [] = Unit
+NoneFor C a past (e ∷ rest) = ((xs : List Address) (ends : ℕ) → counts past e ≡ allowed C xs ends → List·Memᴰ a xs → ⊥) × NoneFor C a (counts past e ∷ past) rest
+
+lapsed-not : (past : List Counted) (C : FiveTuple) (R : ℕ) (a : Address) (t : ℕ) → Lapsed past C a t → GoesTo past C R a t → ⊥
+lapsed-not past C R a t none g =
     let p = g .permission in
-    let m : List·Memᴰ (allowed C (p .addresses) (p .s)) list =
-    subst (List·Memᴰ (allowed C (p .addresses) (p .s))) (sym (g .allocate)) (Memᴰ·append-right (g .before) (List·Memᴰ·tail (p .accepted))) in
-    let late = none (p .addresses) (p .s) m (p .named) in
+    let m : List·Memᴰ (allowed C (p .addresses) (p .ends)) past = rw (g .allocate) (Memᴰ·append-left _ (p .accepted)) in
+    let late = none (p .addresses) (p .ends) m (p .named) in
     omega (arith, p .recent)
 
-module _ (calls : List Arrival) (a : Arrival) (R x t : ℕ) (from : FromIpv4 a R x t) (nr : (number : ℕ) → outcome (run empty calls) a ≢ Refused number) where
-  -- a peer for whose address nobody had a request accepted within the last 300 seconds reaches nobody
-  pub no-permission : ((C : FiveTuple) → Lapsed (told calls) C (V4 x) t) → outcome (run empty calls) a ≡ Dropped
-  no-permission none = demand-3 calls .to-nobody a R x t from nr (λ C. lapsed-not (told calls) C R (V4 x) t (none C))
+still-lapsed : (C : FiveTuple) (a : Address) (t : ℕ) (past : List Counted) (more : List Event) → NoneFor C a past more → Lapsed past C a t → Lapsed (counted past more) C a t
+still-lapsed C a t past [] none l = l
+still-lapsed C a t past (e ∷ more) none l = still-lapsed C a t (counts past e ∷ past) more (none .1) one
+  where
+    one : Lapsed (counts past e ∷ past) C a t
+    one xs ends (List·Memᴰ·head q) m = absurd (none .0 xs ends (sym q) m)
+    one xs ends (List·Memᴰ·tail k) m = l xs ends k m
 
-  -- a permission that lapsed stays shut until a new request of that client is accepted
-  pub stays-shut : (C : FiveTuple) → Lapsed (told calls) C (V4 x) t → (n : ℕ) → outcome (run empty calls) a ≡ ToClient C n → ⊥
-  stays-shut C none n e = lapsed-not (told calls) C R (V4 x) t none (demand-3 calls .goes-to a R x t from nr C .0 (n, e))
+pub counted-append : (past : List Counted) (list more : List Event) → counted past (list ++ more) ≡ counted (counted past list) more
+counted-append past [] more = refl
+counted-append past (e ∷ list) more = counted-append (counts past e ∷ past) list more
 
-  -- what C receives depends only on its own accepted requests and on who was given its port: two lists of calls alike in these reach C alike
-  pub own-history : (others : List Arrival) (b : Arrival) → FromIpv4 b R x t → ((number : ℕ) → outcome (run empty others) b ≢ Refused number) → (C : FiveTuple)
-      → about C R (told calls) ≡ about C R (told others)
-      → ((n : ℕ) × (outcome (run empty calls) a ≡ ToClient C n)) → (n : ℕ) × (outcome (run empty others) b ≡ ToClient C n)
-  own-history others b from′ nr′ C e sent =
-      demand-3 others .goes-to b R x t from′ nr′ C .1 (goes-alike C R (told calls) (told others) e (demand-3 calls .goes-to a R x t from nr C .0 sent))
+module _ {first : State} {past : List Counted} {list : List Event} (demand : Demand3From first past list) where
+  -- a peer for whose address nobody's request is still good reaches nobody
+  pub no-permission : (before : List Event) (e : Event) (R x t : ℕ) → Comes list before e R (V4 x) t
+      → ((C : FiveTuple) → Lapsed (counted past before) C (V4 x) t) → e .outcome ≡ Dropped
+  no-permission before e R x t c none = demand .to-nobody before e R x t c (λ C. lapsed-not _ C R (V4 x) t (none C))
+
+  -- where all of C's requests for the address had ended at u, and none was accepted in the events since then, it stays shut
+  pub stays-shut : (before more : List Event) (e : Event) (R x u t : ℕ) → Comes list (before ++ more) e R (V4 x) t → u ≤ t → (C : FiveTuple)
+      → Lapsed (counted past before) C (V4 x) u → NoneFor C (V4 x) (counted past before) more → To C e → ⊥
+  stays-shut before more e R x u t c le C shut none sent =
+      let g = demand .goes-to (before ++ more) e R x t c C .0 sent in
+      lapsed-not (counted (counted past before) more) C R (V4 x) t
+      (still-lapsed C (V4 x) t (counted past before) more none (λ xs ends m n. omega (arith, shut xs ends m n)))
+      (rw counted-append at g)
+
+-- what C receives depends only on its own accepted requests and on who was given its port: two lists of calls alike in these reach C alike
+pub own-history : {first first′ : State} {past past′ : List Counted} {list list′ : List Event}
+    → Demand3From first past list → Demand3From first′ past′ list′
+    → (before before′ : List Event) (e e′ : Event) (R x t : ℕ) → Comes list before e R (V4 x) t → Comes list′ before′ e′ R (V4 x) t → (C : FiveTuple)
+    → about C R (counted past before) ≡ about C R (counted past′ before′) → To C e ↔ To C e′
+own-history demand demand′ before before′ e e′ R x t c c′ C same =
+    let there = demand .goes-to before e R x t c C in
+    let here = demand′ .goes-to before′ e′ R x t c′ C in
+    (λ sent. here .1 (goes-alike C R _ _ same (there .0 sent)), λ sent. there .1 (goes-alike C R _ _ (sym same) (here .0 sent)))
+
+-- an IPv6 peer's datagram goes to nobody
+pub ipv6-to-nobody : (first last : State) (list before : List Event) (e : Event) (R p q r w t : ℕ) → Lived first list last
+    → Comes list before e R (V6 p q r w) t → e .outcome ≡ Dropped
+ipv6-to-nobody first last list before e R p q r w t lived c =
+    let m = lived-middle before (e ∷ c .after) first last (rw (c .split) at lived) in
+    let same = m .2 .1 .outcome-is in
+    same ∙ ipv6-dropped (m .0) (e .arrival) R p q r w t (c .from) (rw same at (c .not-refused))

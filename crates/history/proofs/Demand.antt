@@ -1,118 +1,75 @@
--- Demand 3, over the calls in the order in which they are made.
-use Prim.Native.Nat.{ℕ, _+_, _<_, _≤_}
+-- Demand 3, of every list of calls.
 use mathlib.Core.Path.{_≡_, refl, sym, _∙_, ap}
-use mathlib.Core.Logic.{_≢_, _⊎_, inl, inr, _↔_}
-use mathlib.Core.List.{List, [], _∷_, _++_, List·Memᴰ, List·Memᴰ·head, List·Memᴰ·tail, List·Memᴰ·not-nil, reverse, reverseAux, reverse-append, reverse-cons, reverse-reverse, append-assoc}
-use Rattle.address.specs.declared.Address.{Address}
-use Rattle.address.specs.declared.Address.the-variants.{V4}
-use Rattle.address.specs.declared.FiveTuple.{FiveTuple}
-use Rattle.history.specs.Counted.{Counted, gave, kept, allowed}
+use mathlib.Core.List.{List, [], _∷_, _++_, map}
 use Rattle.relay.specs.State.{State, empty}
-use Rattle.history.specs.Events.{Arrival, run, Event, events, counted}
-use Rattle.history.specs.Statement.{FromAllocate, FromRefresh, Permitted, GoesTo, Demand3}
-use Rattle.history.proofs.Readings.{Again, Delivers}
-use Rattle.history.proofs.Whole.{after, history, apart, delivery, nobody}
+use Rattle.history.specs.Counted.{Counted}
+use Rattle.history.specs.Events.{Arrival, outcome, replied, run, Event, events, Happened, Lived, counted}
+use Rattle.history.specs.Statement.{Demand3From, Demand3}
+use Rattle.history.proofs.Table.{AccountsFor}
+use Rattle.history.proofs.Whole.{accounts-empty, lived-accounts, apart, delivery, nobody}
 
--- ---- The two orders of the calls and of what they count as
-run-is : (calls past : List Arrival) → after (reverseAux calls past) ≡ run (after past) calls
-unfolding after
-run-is [] past = refl
-run-is (a ∷ calls) past = run-is calls (a ∷ past)
+-- ---- Lists of calls
 
-counted-is : (before : List Event) (calls past : List Arrival) → history (reverseAux calls past) ≡ reverseAux (counted before (events (after past) calls)) (history past)
-unfolding after history
-counted-is before [] past = refl
-counted-is before (a ∷ calls) past = counted-is (_ ∷ before) calls (a ∷ past)
+-- the state in the middle of a list
+pub lived-middle : (before rest : List Event) (first last : State) → Lived first (before ++ rest) last → (st : State) × Lived first before st × Lived st rest last
+lived-middle [] rest first last l = (first, refl, l)
+lived-middle (e ∷ before) rest first last l = let m = lived-middle before rest (l .0) last (l .2) in (m .0, (l .0, l .1, m .1), m .2)
 
--- ---- The two orders of the text
-mem-aux : {A : Type 0} {x : A} (l r : List A) → List·Memᴰ x l ⊎ List·Memᴰ x r → List·Memᴰ x (reverseAux l r)
-mem-aux [] r (inl m) = absurd (List·Memᴰ·not-nil m)
-mem-aux [] r (inr m) = m
-mem-aux (y ∷ l) r (inl (List·Memᴰ·head e)) = mem-aux l (y ∷ r) (inr (List·Memᴰ·head e))
-mem-aux (y ∷ l) r (inl (List·Memᴰ·tail m)) = mem-aux l (y ∷ r) (inl m)
-mem-aux (y ∷ l) r (inr m) = mem-aux l (y ∷ r) (inr (List·Memᴰ·tail m))
+-- one call more, at the end
+pub lived-then : (list : List Event) (e : Event) (first st last : State) → Lived first list st → Happened st e last → Lived first (list ++ e ∷ []) last
+lived-then [] e first st last l h = (last, rw l h, refl)
+lived-then (x ∷ list) e first st last l h = (l .0, l .1, lived-then list e (l .0) st last (l .2) h)
 
-mem-rev : {A : Type 0} {x : A} (l : List A) → List·Memᴰ x l → List·Memᴰ x (reverse l)
-mem-rev l m = mem-aux l [] (inl m)
+-- the calls of the list
+abbrev pub arrivals : List Event → List Arrival
+arrivals list = map (λ e. e .arrival) list
 
-mem-ver : {A : Type 0} {x : A} (l : List A) → List·Memᴰ x (reverse l) → List·Memᴰ x l
-mem-ver l m = rw (reverse-reverse l) at (mem-rev (reverse l) m)
+-- every list of calls is lived through
+pub lived-run : (first : State) (calls : List Arrival) → Lived first (events first calls) (run first calls)
+lived-run first [] = refl
+lived-run first (a ∷ calls) = (_, record { outcome-is = refl; state-is = refl; reply-is = refl }, lived-run _ calls)
 
-rev-split : {A : Type 0} (xs : List A) (y : A) (ys : List A) → reverse (xs ++ y ∷ ys) ≡ reverse ys ++ y ∷ reverse xs
-rev-split xs y ys = reverse-append xs (y ∷ ys) ∙ ap (λ (l : List _). l ++ reverse xs) (reverse-cons y ys) ∙ append-assoc (reverse ys) (y ∷ []) (reverse xs)
-
-allocate-rev : {C : FiveTuple} {t s n : ℕ} (l : List Counted) → FromAllocate C t s n l → FromAllocate C t s n (reverse l)
-allocate-rev l o = record { none-since = λ s n m. o .none-since s n (mem-ver l m); not-zero = o .not-zero; not-over = o .not-over }
-
-permitted-rev : {C : FiveTuple} {a : Address} {t : ℕ} (l : List Counted) → Permitted C a t l → Permitted C a t (reverse l)
-permitted-rev l p = record { addresses = p .addresses; s = p .s; accepted = mem-rev l (p .accepted); named = p .named; recent = p .recent }
-
-goes : (h : List Counted) (C : FiveTuple) (R : ℕ) (a : Address) (t : ℕ) → Delivers h C R a t → GoesTo (reverse h) C R a t
-goes h C R a t d = record {
-  before = reverse (d .before);
-  since = reverse (d .after);
-  s = d .s;
-  n = d .n;
-  allocate = ap reverse (d .allocate) ∙ rev-split (d .after) _ (d .before);
-  latest = λ P s n m. d .latest P s n (mem-ver _ m);
-  alone = λ D s n m. d .alone D s n (mem-ver _ m);
-  lifetime = lasts (d .lifetime);
-  permission = permitted-rev _ (d .permission);
-}
+-- and in one way only
+pub lived-is : (list : List Event) (first last : State) → Lived first list last
+    → (list ≡ events first (arrivals list)) × (last ≡ run first (arrivals list))
+lived-is [] first last l = (refl, sym l)
+lived-is (e ∷ rest) first last l =
+    let h = l .1 in
+    let r = lived-is rest (l .0) last (l .2) in (
+      ap (λ (x : Event). x ∷ rest) (event-is h) ∙ ap (λ (x : List Event). computed ∷ x) (r .0 ∙ ap (λ (st : State). events st (arrivals rest)) (h .state-is)),
+      r .1 ∙ ap (λ (st : State). run st (arrivals rest)) (h .state-is),
+    )
   where
-    lasts : FromAllocate C t (d .s) (d .n) (d .after) ⊎ Again C t (d .after) → FromAllocate C t (d .s) (d .n) (reverse (d .after)) ⊎ FromRefresh C t (reverse (d .after))
-    lasts (inl o) = inl (allocate-rev _ o)
-    lasts (inr g) =
-        inr
-        (record {
-          older = reverse (g .older);
-          newer = reverse (g .newer);
-          s = g .s;
-          n = g .n;
-          refresh = ap reverse (g .refresh) ∙ rev-split (g .newer) _ (g .older);
-          last = λ s n m. g .last s n (mem-ver _ m);
-          not-zero = g .not-zero;
-          not-over = g .not-over;
-        })
+    computed : Event
+    computed = record { arrival = e .arrival; outcome = outcome first (e .arrival); reply = replied first (e .arrival) }
 
-comes : (h : List Counted) (C : FiveTuple) (R : ℕ) (a : Address) (t : ℕ) → GoesTo h C R a t → Delivers (reverse h) C R a t
-comes h C R a t d = record {
-  before = reverse (d .before);
-  after = reverse (d .since);
-  s = d .s;
-  n = d .n;
-  allocate = ap reverse (d .allocate) ∙ rev-split (d .before) _ (d .since);
-  latest = λ P s n m. d .latest P s n (mem-ver _ m);
-  alone = λ D s n m. d .alone D s n (mem-ver _ m);
-  lifetime = lasts (d .lifetime);
-  permission = permitted-rev _ (d .permission);
-}
-  where
-    lasts : FromAllocate C t (d .s) (d .n) (d .since) ⊎ FromRefresh C t (d .since) → FromAllocate C t (d .s) (d .n) (reverse (d .since)) ⊎ Again C t (reverse (d .since))
-    lasts (inl o) = inl (allocate-rev _ o)
-    lasts (inr g) =
-        inr
-        (record {
-          older = reverse (g .older);
-          newer = reverse (g .newer);
-          s = g .s;
-          n = g .n;
-          refresh = ap reverse (g .refresh) ∙ rev-split (g .older) _ (g .newer);
-          last = λ s n m. g .last s n (mem-ver _ m);
-          not-zero = g .not-zero;
-          not-over = g .not-over;
-        })
+    event-is : Happened first e (l .0) → e ≡ computed
+    event-is h i = record { arrival = e .arrival; outcome = h .outcome-is i; reply = h .reply-is i }
 
 -- ---- The theorem
-pub demand-3 : (calls : List Arrival) → Demand3 calls
-unfolding after history
-demand-3 calls =
-    let r : after (reverse calls) ≡ run empty calls = run-is calls [] in
-    let q : history (reverse calls) ≡ reverse (counted [] (events empty calls)) = counted-is [] calls [] in
-    record {
-      apart = rw r at (apart (reverse calls));
-      goes-to = λ a R x t from nr C.
-          let d = (rw r at (delivery (reverse calls) a R x t from)) nr C in
-          ((λ e. rw (q, reverse-reverse) at (goes _ C R (V4 x) t (d .0 e))), (λ g. d .1 (rw q (comes _ C R (V4 x) t g))));
-      to-nobody = λ a R x t from nr f. (rw r at (nobody (reverse calls) a R x t from)) nr (λ C d. f C (rw (q, reverse-reverse) at (goes _ C R (V4 x) t d)));
-    }
+module _ (first : State) (past : List Counted) (I : AccountsFor past first) (list : List Event) (last : State) (lived : Lived first list last) where
+  -- the state that an event of the list met
+  record Met (before : List Event) (e : Event) : Type 0 where
+    st : State
+    accounts : AccountsFor (counted past before) st
+    outcome-is : e .outcome ≡ outcome st (e .arrival)
+
+  met : (before : List Event) (e : Event) (after : List Event) → list ≡ before ++ e ∷ after → Met before e
+  met before e after split =
+      let m = lived-middle before (e ∷ after) first last (rw split at lived) in
+      record { st = m .0; accounts = lived-accounts before first (m .0) past (m .1) I; outcome-is = m .2 .1 .outcome-is }
+
+  pub demand-3-from : Demand3From first past list
+  demand-3-from = record {
+    apart = λ before after split st l. apart st (counted past before) (lived-accounts before first st past l I);
+    goes-to = λ before e R x t c C.
+        let m = met before e (c .after) (c .split) in
+        rw (m .outcome-is) (delivery (m .st) (counted past before) (m .accounts) (e .arrival) R x t (c .from) (rw (m .outcome-is) at (c .not-refused)) C);
+    to-nobody = λ before e R x t c none.
+        let m = met before e (c .after) (c .split) in
+        m .outcome-is ∙ nobody (m .st) (counted past before) (m .accounts) (e .arrival) R x t (c .from) (rw (m .outcome-is) at (c .not-refused)) none;
+  }
+
+-- from an empty relay
+pub demand-3 : (list : List Event) (last : State) → Lived empty list last → Demand3 list
+demand-3 = demand-3-from empty [] accounts-empty

@@ -1,8 +1,8 @@
 -- What an accepted permission or channel does to the entries of a slot.
 use Prim.Native.Nat.{ℕ, zero, suc, _+_, _<_, _≤_, zero-le}
-use mathlib.Core.Path.{_≡_, refl, sym, _∙_, ap}
+use mathlib.Core.Path.{_≡_, refl, sym, _∙_}
 use mathlib.Core.Logic.{_≢_, _⊎_, inl, inr}
-use mathlib.Core.Bool.{Bool, true, false, not, true≢false, false≢true}
+use mathlib.Core.Bool.{Bool, true, false, not, false≢true}
 use mathlib.Core.List.{List, [], _∷_, List·Memᴰ, List·Memᴰ·head, List·Memᴰ·tail, List·Memᴰ·not-nil}
 use native.Mathlib.Omega.{arith}
 use native.Mathlib.Nat.{le-refl, not-suc-le-zero}
@@ -12,27 +12,27 @@ use lib.Seq.{getD-set-same, getD-set-other}
 use borrow.Author.Tests.{eqb-true, not-false}
 use Rattle.choice.specs.Choice.{pick, both}
 use Rattle.address.specs.declared.Address.{Address}
-use Rattle.address.specs.declared.Peer.{Peer}
+use Rattle.address.specs.declared.TransportAddress.{TransportAddress}
 use Rattle.stun.specs.declared.values.AddressValue.{AddressValue}
-use Rattle.table.specs.declared.Permission.{Permission}
-use Rattle.table.specs.declared.Channel.{Channel}
-use Rattle.table.specs.declared.Slot.{Slot}
-use Rattle.table.specs.declared.Placed.{Placed}
-use Rattle.table.specs.declared.Found.{Found}
-use Rattle.table.specs.declared.Found.the-variants.{At, Nothing}
-use Rattle.table.specs.Search.{find, has, entry, place, atOr}
-use Rattle.table.specs.Table.{freshPermission, freshChannel, permits, freePermission, permissionEntry, permit, numbered, leadsTo, freeChannel, peerTaken, channelEntry, bind}
-use Rattle.rules.specs.Requests.{permitPeer, permitAll, bound}
+use Rattle.slot.specs.declared.Permission.{Permission}
+use Rattle.slot.specs.declared.Channel.{Channel}
+use Rattle.slot.specs.declared.Slot.{Slot}
+use Rattle.slot.specs.declared.Placed.{Placed}
+use Rattle.slot.specs.declared.Found.{Found}
+use Rattle.slot.specs.declared.Found.the-variants.{At, Nothing}
+use Rattle.slot.specs.Search.{find, has, entry, putAt, atOr}
+use Rattle.slot.specs.Slot.{freshPermission, freshChannel, permits, freePermission, permissionEntry, permit, numbered, leadsTo, freeChannel, peerTaken, channelEntry, bind}
+use Rattle.permission_rules.specs.Permissions.{permitPeer, permitAll, bound}
 use Rattle.history.specs.Events.{addressesOf}
 use Rattle.history.specs.Statement.{permissionAt, channelAt, LiveChannel}
 use Rattle.history.proofs.Table.{HasPermission, NeatPermissions, NeatChannels, Neat}
 use Rattle.history.proofs.Keep.{nat?}
-use Rattle.history.proofs.Tests.{find-some, entry-is, has-at, has-not, permission-is, permission-free, none-permission, numbered-is, leads-is, none-numbered, none-leads}
+use Rattle.history.proofs.Tests.{find-some, entry-is, permission-is, permission-free, none-permission, numbered-is, leads-is, none-numbered, none-leads}
 
 abbrev newPermission : ℕ → Address → Permission
 newPermission t a = record { address = a; expiry = t + 300 }
 
-abbrev newChannel : ℕ → ℕ → Peer → Channel
+abbrev newChannel : ℕ → ℕ → TransportAddress → Channel
 newChannel t n p = record { number = n; peer = p; expiry = t + 600 }
 
 -- ---- One permission
@@ -159,11 +159,11 @@ pub record Extends (t : ℕ) (xs : List Address) (was slot : Slot) : Type 0 wher
 -- one address, and then others
 permit-then : (t : ℕ) (a : Address) (xs : List Address) (was slot : Slot) → permit t a was .ok ≡ true → Extends t xs (permit t a was .slot) slot
     → Extends t (a ∷ xs) was slot
-unfolding permit place
+unfolding permit putAt
 permit-then t a xs was slot ok x = go (permissionEntry t a (was .permissions)) refl ok x
   where
     go : (f : Found) → permissionEntry t a (was .permissions) ≡ f → has f ≡ true
-        → Extends t xs (record { allocation = was .allocation; permissions = place f (newPermission t a) (was .permissions); channels = was .channels }) slot
+        → Extends t xs (record { allocation = was .allocation; permissions = putAt f (newPermission t a) (was .permissions); channels = was .channels }) slot
         → Extends t (a ∷ xs) was slot
     go (At j) e ok x = record {
       allocation-is = x .allocation-is;
@@ -195,7 +195,7 @@ all-extends t (v ∷ l) was done ok = go (permit t (v .peer .address) done .ok) 
     go false e ok ih = absurd (false≢true ok)
 
 -- ---- What bind does to the channels
-module _ (t n : ℕ) (p : Peer) (cs : List Channel) (m : ℕ) (taken : peerTaken t n p cs ≡ false) (e : channelEntry t n cs ≡ At m) where
+module _ (t n : ℕ) (p : TransportAddress) (cs : List Channel) (m : ℕ) (taken : peerTaken t n p cs ≡ false) (e : channelEntry t n cs ≡ At m) where
   -- a live channel of the peer has the number
   same-number : NeatChannels t cs → (i : ℕ) → LiveChannel t (channelAt cs i) → channelAt cs i .peer ≡ p → channelAt cs i .number ≡ n
   unfolding peerTaken both atOr
@@ -263,15 +263,15 @@ pub record Bound (t : ℕ) (a : Address) (was slot : Slot) : Type 0 where
   pub channels-neat : NeatChannels t (was .channels) → NeatChannels t (slot .channels)
   pub grants : Granting t (a ∷ []) (was .permissions) (slot .permissions)
 
-pub bound-is : (t n : ℕ) (p : Peer) (was : Slot) → peerTaken t n p (was .channels) ≡ false → permit t (p .address) was .ok ≡ true
+pub bound-is : (t n : ℕ) (p : TransportAddress) (was : Slot) → peerTaken t n p (was .channels) ≡ false → permit t (p .address) was .ok ≡ true
     → bind t n p (permit t (p .address) was .slot) .ok ≡ true → Bound t (p .address) was (bound t n p was)
-unfolding bound bind place
+unfolding bound bind putAt
 bound-is t n p was taken ok ok′ =
     let x = permit-extends t (p .address) was ok in
     go (permit t (p .address) was .slot) x (channelEntry t n (permit t (p .address) was .slot .channels)) refl ok′
   where
     go : (half : Slot) → Extends t (p .address ∷ []) was half → (f : Found) → channelEntry t n (half .channels) ≡ f → has f ≡ true
-        → Bound t (p .address) was (record { allocation = half .allocation; permissions = half .permissions; channels = place f (newChannel t n p) (half .channels) })
+        → Bound t (p .address) was (record { allocation = half .allocation; permissions = half .permissions; channels = putAt f (newChannel t n p) (half .channels) })
     go half x Nothing e ok = absurd (false≢true ok)
     go half x (At m) e ok = record {
       allocation-is = x .allocation-is;
@@ -279,16 +279,16 @@ bound-is t n p was taken ok ok′ =
       grants = x .grants;
     }
       where
-        neat : NeatChannels t (was .channels) → NeatChannels t (place (At m) (newChannel t n p) (half .channels))
+        neat : NeatChannels t (was .channels) → NeatChannels t (putAt (At m) (newChannel t n p) (half .channels))
         neat ne = rw (x .channels-are) (bind-neat t n p (was .channels) m taken (rw (x .channels-are) at e) ne)
 
 -- ---- A fresh slot
-fresh-permissions : (n j : ℕ) → permissionAt (replicate n freshPermission) j ≡ freshPermission
+pub fresh-permissions : (n j : ℕ) → permissionAt (replicate n freshPermission) j ≡ freshPermission
 fresh-permissions zero j = refl
 fresh-permissions (suc n) zero = refl
 fresh-permissions (suc n) (suc j) = fresh-permissions n j
 
-fresh-channels : (n j : ℕ) → channelAt (replicate n freshChannel) j ≡ freshChannel
+pub fresh-channels : (n j : ℕ) → channelAt (replicate n freshChannel) j ≡ freshChannel
 fresh-channels zero j = refl
 fresh-channels (suc n) zero = refl
 fresh-channels (suc n) (suc j) = fresh-channels n j

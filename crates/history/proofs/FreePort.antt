@@ -1,25 +1,24 @@
 -- There is always a port to give: 128 ports, and fewer slots.
-use Prim.Native.Nat.{ℕ, zero, suc, _+_, _<_, _≤_, zero-le}
-use mathlib.Core.Path.{_≡_, refl, sym, _∙_, ap}
+use Prim.Native.Nat.{ℕ, zero, suc, _+_, _<_, _≤_}
+use mathlib.Core.Path.{_≡_, refl, sym, _∙_}
 use mathlib.Core.Bool.{Bool, true, false}
 use mathlib.Core.List.{List, [], _∷_}
 use native.Mathlib.Omega.{arith}
 use native.Mathlib.Nat.{zero-add}
-use lib.Dec.{eqb, ltb}
 use lib.ListN.{length}
-use borrow.Author.Tests.{ne-eqb, eqb-true}
-use Rattle.choice.specs.Choice.{pick, both}
+use borrow.Author.Tests.{eqb-true}
+use Rattle.choice.specs.Choice.{pick}
 use Rattle.choice.proofs.Laws.{both-parts}
-use Rattle.table.specs.declared.Slot.{Slot}
-use Rattle.table.specs.declared.Found.{Found}
-use Rattle.table.specs.declared.Found.the-variants.{At, Nothing}
-use Rattle.table.specs.Search.{further, find, has}
-use Rattle.table.specs.Table.{holdsPort}
-use Rattle.slots.specs.Slots.{inSlot}
-use Rattle.rules.specs.Requests.{firstFree, portFor}
-use Rattle.rules.proofs.FreePort.{heldCount, free-found, first-free-below}
-use Rattle.relay.specs.Step.{portsHeld}
-use Rattle.relay.proofs.Laws.{length-held, held-at}
+use Rattle.slot.specs.declared.Slot.{Slot}
+use Rattle.slot.specs.declared.Found.{Found}
+use Rattle.slot.specs.declared.Found.the-variants.{At, Nothing}
+use Rattle.slot.specs.Search.{further, find, has}
+use Rattle.slot.specs.Slot.{holdsPort}
+use Rattle.table.specs.Table.{inSlot}
+use Rattle.allocation_rules.specs.Allocations.{firstFree, portFor}
+use Rattle.allocation_rules.proofs.FreePort.{heldCount, free-found, first-free-below}
+use Rattle.decisions.specs.Decisions.{portsHeld}
+use Rattle.decisions.proofs.Laws.{length-held, held-at}
 use Rattle.history.proofs.Tests.{has-not}
 
 abbrev heldBy : ℕ → ℕ → Slot → Bool

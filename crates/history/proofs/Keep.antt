@@ -1,7 +1,7 @@
--- A call keeps the tie between the table and the history, whatever it is.
+-- Whatever a call counts as: where what was counted accounts for the table before it, it does so after it.
 use mathlib.Core.Path.{_≡_, refl, sym, _∙_, ap, subst}
 use mathlib.Core.Logic.{_≢_, _⊎_, inl, inr}
-use mathlib.Core.List.{List, [], _∷_, List·Memᴰ}
+use mathlib.Core.List.{List, _∷_, List·Memᴰ}
 use Prim.Native.Nat.{ℕ, _+_, _<_, _≤_}
 use native.Mathlib.Omega.{arith}
 use lib.Dec.{eqb}
@@ -9,11 +9,11 @@ use mathlib.Core.Bool.{Bool, true, false}
 use borrow.Author.Tests.{eqb-true, eqb-false}
 use Rattle.address.specs.declared.Address.{Address}
 use Rattle.address.specs.declared.FiveTuple.{FiveTuple}
-use Rattle.table.specs.declared.Slot.{Slot}
+use Rattle.slot.specs.declared.Slot.{Slot}
 use Rattle.history.specs.Counted.{Counted, gave, kept, allowed, nothing}
 use Rattle.history.specs.Statement.{Live}
 use Rattle.history.proofs.Readings.{Given, Granted, Allowed}
-use Rattle.history.proofs.Table.{View, HasPermission, Tidy, Frame, Quiet, Allot, Renew, End, Admit, Change, Inv, inv-later}
+use Rattle.history.proofs.Table.{View, HasPermission, Tidy, Frame, Quiet, Allot, Renew, End, Admit, Change, Accounts, accounts-later}
 
 pub nat? : (a b : ℕ) → (a ≡ b) ⊎ (a ≢ b)
 nat? a b = go (eqb a b) refl
@@ -39,8 +39,8 @@ by-slot now k v w f P a b i x = go (at? now k v w f i x)
     go (inr q) = b i (q .0) (q .1) (q .2)
 
 -- slots that are not live may change in any way that leaves them not live: a sweep, say
-pub inv-quiet : (now : ℕ) (v w : View) (h : List Counted) → Inv now v h → Quiet now v w → Inv now w h
-inv-quiet now v w h I q = record {
+pub accounts-quiet : (now : ℕ) (v w : View) (h : List Counted) → Accounts now v h → Quiet now v w → Accounts now w h
+accounts-quiet now v w h I q = record {
   own = λ i j x y e. let p = q .after i x in let r = q .after j y in I .own i j (rw p at x) (rw r at y) (rw (p, r) at e);
   neat = λ i x. let p = q .after i x in rw p (I .neat i (rw p at x));
   given = λ i x. let p = q .after i x in rw p (I .given i (rw p at x));
@@ -51,10 +51,10 @@ inv-quiet now v w h I q = record {
 }
 
 -- a call that counts for nothing
-inv-nothing : (now : ℕ) (v : View) (h : List Counted) → Inv now v h → Inv now v (nothing ∷ h)
-inv-nothing now v h I = record { own = I .own; neat = I .neat; given = I .given; granted→ = I .granted→; granted← = I .granted←; allowed→ = I .allowed→; allowed← = I .allowed← }
+accounts-nothing : (now : ℕ) (v : View) (h : List Counted) → Accounts now v h → Accounts now v (nothing ∷ h)
+accounts-nothing now v h I = record { own = I .own; neat = I .neat; given = I .given; granted→ = I .granted→; granted← = I .granted←; allowed→ = I .allowed→; allowed← = I .allowed← }
 
-module _ (now : ℕ) (v w : View) (h : List Counted) (I : Inv now v h) where
+module _ (now : ℕ) (v w : View) (h : List Counted) (I : Accounts now v h) where
   module _ (C : FiveTuple) (R n : ℕ) (c : Allot now v w C R n) where
     allot-own : (i j : ℕ) → Live now (w i) → Live now (w j) → w i .allocation .«five_tuple» ≡ w j .allocation .«five_tuple» → i ≡ j
     allot-own i j x y e = go (at? now (c .k) v w (c .frame) i x) (at? now (c .k) v w (c .frame) j y)
@@ -65,13 +65,13 @@ module _ (now : ℕ) (v w : View) (h : List Counted) (I : Inv now v h) where
         go (inr p) (inl q) = absurd (c .new-who i (p .2) (cc (ap (λ (s : Slot). s .allocation .«five_tuple») (p .1), c .who, ap (λ (m : ℕ). w m .allocation .«five_tuple») q)))
         go (inr p) (inr q) = I .own i j (p .2) (q .2) (rw (p .1, q .1) at e)
 
-    keep-allot : Inv now w (gave C R now n ∷ h)
+    keep-allot : Accounts now w (gave C R now n ∷ h)
     keep-allot = record {
       own = allot-own;
       neat = by-slot now (c .k) v w (c .frame) (λ i. Tidy now (w i)) (c .neat) (λ i ne p x. rw p (I .neat i x));
       given = by-slot now (c .k) v w (c .frame) (λ i. Given (gave C R now n ∷ h) (w i .allocation .«five_tuple») (w i .allocation .port)) (inl (c .who, c .port)) (λ i ne p x. rw p (inr (c .new-who i x, c .new-port i x, I .given i x)));
       granted→ = by-slot now (c .k) v w (c .frame) (λ i. (t : ℕ) → now ≤ t → t < w i .allocation .expiry → Granted (gave C R now n ∷ h) (w i .allocation .«five_tuple») t)
-          (λ t le y. inl (c .who, c .some-time, rw (c .until) at y))
+          (λ t le y. inl (c .who, record { not-zero = c .some-time; not-over = rw (c .until) at y }))
           (λ i ne p x t le y. rw p (inr (c .new-who i x, I .granted→ i x t le (rw p at y))));
       granted← = back;
       allowed→ = by-slot now (c .k) v w (c .frame) (λ i. (a : Address) (t : ℕ) → now ≤ t → HasPermission t a (w i .permissions) → Allowed (gave C R now n ∷ h) (w i .allocation .«five_tuple») a t)
@@ -83,7 +83,7 @@ module _ (now : ℕ) (v w : View) (h : List Counted) (I : Inv now v h) where
     }
       where
         back : (D : FiveTuple) (t : ℕ) → now ≤ t → Granted (gave C R now n ∷ h) D t → (i : ℕ) × (w i .allocation .«five_tuple» ≡ D) × (t < w i .allocation .expiry)
-        back D t le (inl g) = (c .k, c .who ∙ sym (g .0), rw (c .until) (g .2))
+        back D t le (inl g) = (c .k, c .who ∙ sym (g .0), rw (c .until) (g .1 .not-over))
         back D t le (inr g) =
             let s = I .granted← D t le (g .1) in
             let i : ℕ = s .0 in
@@ -104,13 +104,13 @@ module _ (now : ℕ) (v w : View) (h : List Counted) (I : Inv now v h) where
     other : (i : ℕ) → i ≢ k → Live now (v i) → (C : FiveTuple) → v k .allocation .«five_tuple» ≡ C → v i .allocation .«five_tuple» ≢ C
     other i ne x C m e = ne (I .own i k x live (e ∙ sym m))
 
-  keep-renew : (C : FiveTuple) (n : ℕ) (c : Renew now v w C n) → Inv now w (kept C now n ∷ h)
+  keep-renew : (C : FiveTuple) (n : ℕ) (c : Renew now v w C n) → Accounts now w (kept C now n ∷ h)
   keep-renew C n c = record {
     own = same-own (c .k) (c .frame) (c .live) (c .who);
     neat = by-slot now (c .k) v w (c .frame) (λ i. Tidy now (w i)) (rw (c .perms, c .chans) (I .neat (c .k) (c .live))) (λ i ne p x. rw p (I .neat i x));
     given = by-slot now (c .k) v w (c .frame) (λ i. Given h (w i .allocation .«five_tuple») (w i .allocation .port)) (rw (c .who, c .port) (I .given (c .k) (c .live))) (λ i ne p x. rw p (I .given i x));
     granted→ = by-slot now (c .k) v w (c .frame) (λ i. (t : ℕ) → now ≤ t → t < w i .allocation .expiry → Granted (kept C now n ∷ h) (w i .allocation .«five_tuple») t)
-        (λ t le y. inl (c .who ∙ c .mine, c .some-time, rw (c .until) at y))
+        (λ t le y. inl (c .who ∙ c .mine, record { not-zero = c .some-time; not-over = rw (c .until) at y }))
         (λ i ne p x t le y. rw p (inr (other (c .k) (c .frame) (c .live) (c .who) i ne x C (c .mine), I .granted→ i x t le (rw p at y))));
     granted← = back;
     allowed→ = by-slot now (c .k) v w (c .frame) (λ i. (a : Address) (t : ℕ) → now ≤ t → HasPermission t a (w i .permissions) → Allowed h (w i .allocation .«five_tuple») a t)
@@ -122,7 +122,7 @@ module _ (now : ℕ) (v w : View) (h : List Counted) (I : Inv now v h) where
   }
     where
       back : (D : FiveTuple) (t : ℕ) → now ≤ t → Granted (kept C now n ∷ h) D t → (i : ℕ) × (w i .allocation .«five_tuple» ≡ D) × (t < w i .allocation .expiry)
-      back D t le (inl g) = (c .k, c .who ∙ c .mine ∙ sym (g .0), rw (c .until) (g .2))
+      back D t le (inl g) = (c .k, c .who ∙ c .mine ∙ sym (g .0), rw (c .until) (g .1 .not-over))
       back D t le (inr g) =
           let s = I .granted← D t le (g .1) in
           let i : ℕ = s .0 in
@@ -131,7 +131,7 @@ module _ (now : ℕ) (v w : View) (h : List Counted) (I : Inv now v h) where
           let p = c .frame .before i (λ (e : i ≡ c .k). g .0 (sym (s .1) ∙ ap (λ (m : ℕ). v m .allocation .«five_tuple») e ∙ c .mine)) x in
           (i, rw p (s .1), rw p lt)
 
-  keep-end : (C : FiveTuple) (n : ℕ) (c : End now v w C n) → Inv now w (kept C now n ∷ h)
+  keep-end : (C : FiveTuple) (n : ℕ) (c : End now v w C n) → Accounts now w (kept C now n ∷ h)
   keep-end C n c = record {
     own = λ i j x y e. let p = at i x in let r = at j y in I .own i j (p .2) (r .2) (rw (p .1, r .1) at e);
     neat = λ i x. let p = at i x in rw (p .1) (I .neat i (p .2));
@@ -153,7 +153,7 @@ module _ (now : ℕ) (v w : View) (h : List Counted) (I : Inv now v h) where
       ne i d x e = d (I .own i (c .k) x (c .live) (e ∙ sym (c .mine)))
 
       back : (D : FiveTuple) (t : ℕ) → now ≤ t → Granted (kept C now n ∷ h) D t → (i : ℕ) × (w i .allocation .«five_tuple» ≡ D) × (t < w i .allocation .expiry)
-      back D t le (inl g) = absurd (g .1 (c .no-time))
+      back D t le (inl g) = absurd (g .1 .not-zero (c .no-time))
       back D t le (inr g) =
           let s = I .granted← D t le (g .1) in
           let i : ℕ = s .0 in
@@ -162,7 +162,7 @@ module _ (now : ℕ) (v w : View) (h : List Counted) (I : Inv now v h) where
           let p = c .frame .before i (λ (e : i ≡ c .k). g .0 (sym (s .1) ∙ ap (λ (m : ℕ). v m .allocation .«five_tuple») e ∙ c .mine)) x in
           (i, rw p (s .1), rw p lt)
 
-  keep-admit : (C : FiveTuple) (xs : List Address) (c : Admit now v w C xs) → Inv now w (allowed C xs now ∷ h)
+  keep-admit : (C : FiveTuple) (xs : List Address) (c : Admit now v w C xs) → Accounts now w (allowed C xs (now + 300) ∷ h)
   keep-admit C xs c = record {
     own = same-own (c .k) (c .frame) (c .live) (c .who);
     neat = by-slot now (c .k) v w (c .frame) (λ i. Tidy now (w i)) (c .neat (I .neat (c .k) (c .live))) (λ i ne p x. rw p (I .neat i x));
@@ -171,23 +171,23 @@ module _ (now : ℕ) (v w : View) (h : List Counted) (I : Inv now v h) where
         (λ t le y. rw (c .who) (I .granted→ (c .k) (c .live) t le (rw (c .until) at y)))
         (λ i ne p x t le y. rw p (I .granted→ i x t le (rw p at y)));
     granted← = back;
-    allowed→ = by-slot now (c .k) v w (c .frame) (λ i. (a : Address) (t : ℕ) → now ≤ t → HasPermission t a (w i .permissions) → Allowed (allowed C xs now ∷ h) (w i .allocation .«five_tuple») a t)
+    allowed→ = by-slot now (c .k) v w (c .frame) (λ i. (a : Address) (t : ℕ) → now ≤ t → HasPermission t a (w i .permissions) → Allowed (allowed C xs (now + 300) ∷ h) (w i .allocation .«five_tuple») a t)
         (λ a t le y. into a t le (c .perms→ a t le y))
         (λ i ne p x a t le y. rw p (inr (I .allowed→ i x a t le (rw p at y))));
-    allowed← = by-slot now (c .k) v w (c .frame) (λ i. (a : Address) (t : ℕ) → now ≤ t → Allowed (allowed C xs now ∷ h) (w i .allocation .«five_tuple») a t → HasPermission t a (w i .permissions))
+    allowed← = by-slot now (c .k) v w (c .frame) (λ i. (a : Address) (t : ℕ) → now ≤ t → Allowed (allowed C xs (now + 300) ∷ h) (w i .allocation .«five_tuple») a t → HasPermission t a (w i .permissions))
         (λ a t le y. c .perms← (I .neat (c .k) (c .live)) a t le (out a t le (rw (c .who) at y)))
         (λ i ne p x a t le y. rw p (off i ne x a t le (rw p at y)));
   }
     where
-      into : (a : Address) (t : ℕ) → now ≤ t → (List·Memᴰ a xs × (t < now + 300)) ⊎ HasPermission t a (v (c .k) .permissions) → Allowed (allowed C xs now ∷ h) (w (c .k) .allocation .«five_tuple») a t
+      into : (a : Address) (t : ℕ) → now ≤ t → (List·Memᴰ a xs × (t < now + 300)) ⊎ HasPermission t a (v (c .k) .permissions) → Allowed (allowed C xs (now + 300) ∷ h) (w (c .k) .allocation .«five_tuple») a t
       into a t le (inl y) = inl (c .who ∙ c .mine, y .0, y .1)
       into a t le (inr y) = inr (rw (c .who) (I .allowed→ (c .k) (c .live) a t le y))
 
-      out : (a : Address) (t : ℕ) → now ≤ t → Allowed (allowed C xs now ∷ h) (v (c .k) .allocation .«five_tuple») a t → (List·Memᴰ a xs × (t < now + 300)) ⊎ HasPermission t a (v (c .k) .permissions)
+      out : (a : Address) (t : ℕ) → now ≤ t → Allowed (allowed C xs (now + 300) ∷ h) (v (c .k) .allocation .«five_tuple») a t → (List·Memᴰ a xs × (t < now + 300)) ⊎ HasPermission t a (v (c .k) .permissions)
       out a t le (inl y) = inl (y .1, y .2)
       out a t le (inr y) = inr (I .allowed← (c .k) (c .live) a t le y)
 
-      off : (i : ℕ) → i ≢ c .k → Live now (v i) → (a : Address) (t : ℕ) → now ≤ t → Allowed (allowed C xs now ∷ h) (v i .allocation .«five_tuple») a t → HasPermission t a (v i .permissions)
+      off : (i : ℕ) → i ≢ c .k → Live now (v i) → (a : Address) (t : ℕ) → now ≤ t → Allowed (allowed C xs (now + 300) ∷ h) (v i .allocation .«five_tuple») a t → HasPermission t a (v i .permissions)
       off i ne x a t le (inl y) = absurd (other (c .k) (c .frame) (c .live) (c .who) i ne x C (c .mine) (y .0))
       off i ne x a t le (inr y) = I .allowed← i x a t le y
 
@@ -201,13 +201,13 @@ module _ (now : ℕ) (v w : View) (h : List Counted) (I : Inv now v h) where
           go (inl e) = (c .k, c .who ∙ ap (λ (m : ℕ). v m .allocation .«five_tuple») (sym e) ∙ s .1, rw (c .until, ← e) (s .2))
           go (inr e) = let lt : t < v (s .0) .allocation .expiry = s .2 in let p = c .frame .before (s .0) e (omega arith) in (s .0, rw p (s .1), rw p lt)
 
--- any call: from the stored clock to its time, with the deed that it counts as
-pub keep : (clock now : ℕ) (v w : View) (h : List Counted) (d : Counted) → clock ≤ now → Inv clock v h → Change now v w d → Inv now w (d ∷ h)
-keep clock now v w h nothing le I c = inv-nothing now w h (inv-quiet now v w h (inv-later clock now v h le I) c)
-keep clock now v w h (gave C R s n) le I c = rw (c .0) (keep-allot now v w h (inv-later clock now v h le I) C R n (c .1))
+-- any call: from the stored clock to its time, with what it counts as
+pub keep : (clock now : ℕ) (v w : View) (h : List Counted) (d : Counted) → clock ≤ now → Accounts clock v h → Change now v w d → Accounts now w (d ∷ h)
+keep clock now v w h nothing le I c = accounts-nothing now w h (accounts-quiet now v w h (accounts-later clock now v h le I) c)
+keep clock now v w h (gave C R s n) le I c = rw (c .0) (keep-allot now v w h (accounts-later clock now v h le I) C R n (c .1))
 keep clock now v w h (kept C s n) le I c = rw (c .0) (go (c .1))
   where
-    go : Renew now v w C n ⊎ End now v w C n → Inv now w (kept C now n ∷ h)
-    go (inl r) = keep-renew now v w h (inv-later clock now v h le I) C n r
-    go (inr r) = keep-end now v w h (inv-later clock now v h le I) C n r
-keep clock now v w h (allowed C xs s) le I c = rw (c .0) (keep-admit now v w h (inv-later clock now v h le I) C xs (c .1))
+    go : Renew now v w C n ⊎ End now v w C n → Accounts now w (kept C now n ∷ h)
+    go (inl r) = keep-renew now v w h (accounts-later clock now v h le I) C n r
+    go (inr r) = keep-end now v w h (accounts-later clock now v h le I) C n r
+keep clock now v w h (allowed C xs ends) le I c = rw (c .0) (keep-admit now v w h (accounts-later clock now v h le I) C xs (c .1))

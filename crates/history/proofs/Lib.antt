@@ -3,6 +3,7 @@ pub mod Table
 pub mod Keep
 pub mod Tests
 pub mod Entries
+pub mod Asking
 pub mod Replies
 pub mod FreePort
 pub mod Made
@@ -10,6 +11,12 @@ pub mod Whole
 pub mod Demand
 pub mod Codes
 pub mod ReadBack
+pub mod Fits
 pub mod Own
 pub mod Corollaries
+pub mod Shut
+pub mod Lines
 pub mod Sample
+pub mod Witnesses
+pub mod Sizes
+pub mod Marked

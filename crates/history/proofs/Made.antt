@@ -1,9 +1,9 @@
 -- Every call's act is a change of the table that what it counts as allows.
 use Prim.Native.Nat.{ℕ, _+_, _<_, _≤_, _^_}
-use mathlib.Core.Path.{_≡_, refl, sym, _∙_, ap}
+use mathlib.Core.Path.{_≡_, refl, sym, _∙_}
 use mathlib.Core.Logic.{_≢_, _⊎_, inl, inr}
 use mathlib.Core.Bool.{Bool, true, false, not, false≢true}
-use mathlib.Core.List.{List, [], _∷_}
+use mathlib.Core.List.{List}
 use native.Mathlib.Omega.{arith}
 use native.Mathlib.Nat.{not-suc-le-zero}
 use lib.Dec.{eqb}
@@ -11,47 +11,48 @@ use lib.ListN.{length, set}
 use lib.Seq.{getD-set-same, getD-set-other}
 use borrow.Author.Tests.{eqb-true, eqb-false}
 use Rattle.choice.specs.Choice.{pick}
-use Rattle.address.specs.declared.Address.{Address}
 use Rattle.address.specs.declared.FiveTuple.{FiveTuple}
-use Rattle.address.specs.declared.Peer.{Peer as Transport}
 use Rattle.stun.specs.declared.kinds.Method.{Method}
-use Rattle.stun.specs.declared.message.Found.{Found as Place}
-use Rattle.stun.specs.declared.message.Found.the-variants.{Value, Absent}
+use Rattle.stun.specs.declared.kinds.Method.the-variants.{Allocate, Refresh, CreatePermission, ChannelBind}
+use Rattle.stun.specs.declared.message.ValuePlace.{ValuePlace}
+use Rattle.stun.specs.declared.message.ValuePlace.the-variants.{Value, Absent}
 use Rattle.stun.specs.declared.channel_data.ChannelMessage.{ChannelMessage}
 use Rattle.stun.specs.declared.channel_data.ChannelMessage.the-variants.{Data, Malformed}
 use Rattle.stun.specs.AttributeNumbers as attribute
 use Rattle.stun.specs.Message.{attributes, firstOf, channelDataOf}
 use Rattle.stun.specs.Values.{peers, firstPeer}
-use Rattle.table.specs.declared.Slot.{Slot}
-use Rattle.table.specs.declared.Found.{Found}
-use Rattle.table.specs.declared.Found.the-variants.{At, Nothing}
-use Rattle.table.specs.Search.{find, has, atOr}
-use Rattle.table.specs.Table.{freshSlot, freshChannel, holds, numbered}
-use Rattle.slots.specs.Slots.{slotAt, inSlot, lapsed}
+use Rattle.slot.specs.declared.Slot.{Slot}
+use Rattle.slot.specs.declared.Found.{Found}
+use Rattle.slot.specs.declared.Found.the-variants.{At, Nothing}
+use Rattle.slot.specs.Search.{find, has, atOr}
+use Rattle.slot.specs.Slot.{freshSlot, freshChannel, holds, numbered}
+use Rattle.table.specs.Table.{slotAt, inSlot, lapsed}
 use Rattle.rules.specs.declared.requests.ClientCall.{ClientCall}
-use Rattle.rules.specs.Act.{Out, dropped, toClient, toPeer, Change, keep, write, outOf, errorMessage, respond}
-use Rattle.rules.specs.Act as rules
-use Rattle.rules.specs.Values.{lifetime, channelNumber, numberOf, granted, grantedRefresh, anyUnknown, malformedPeer, ipv6Peer}
-use Rattle.rules.specs.Requests.{allocated, allocate, renewed, refreshed, refresh, permitAll, createPermission, bound, channelBind}
-use Rattle.rules.specs.Data.{permitted, sentFrom, send, channelledFrom, channelled}
-use Rattle.rules.specs.declared.client.Asked.{Asked}
-use Rattle.rules.specs.declared.client.Asked.the-variants as Asked
+use Rattle.rules.specs.Change.{Out, dropped, toClient, toPeer, Change, keep, write, errorMessage, respond}
+use Rattle.rules.specs.Values.{lifetime, channelNumber, numberGiven, anyUnknown, malformedPeer, ipv6Peer}
+use Rattle.allocation_rules.specs.Allocations.{allocated, allocate, renewed, refreshed, refresh, granted, grantedRefresh}
+use Rattle.permission_rules.specs.Permissions.{permitAll, createPermission, bound, channelBind}
+use Rattle.data_rules.specs.Data.{permitted, sentFrom, send, channelledFrom, sendChannelData}
+use Rattle.decisions.specs.declared.client.Asked.{Asked}
+use Rattle.decisions.specs.declared.client.Asked.the-variants as Asked
+use Rattle.decisions.specs.Client.{askedBy}
 use Rattle.rules.proofs.Laws.{kept-not-written}
-use Rattle.rules.proofs.Accepted.{allocates, refreshes, permits, binds, granted-range, granted-refresh-range}
-use Rattle.relay.specs.declared.incoming.Call.{Call}
-use Rattle.relay.specs.declared.incoming.Call.the-variants.{Client, Peer}
-use Rattle.relay.specs.declared.incoming.FromClient.{FromClient}
+use Rattle.decisions.proofs.Accepted.{allocates, refreshes, permits, binds, granted-range, granted-refresh-range}
+use Rattle.interface.specs.declared.incoming.Call.the-variants.{Client}
+use Rattle.interface.specs.declared.incoming.FromClient.{FromClient}
 use Rattle.relay.specs.State.{State, withSlots}
 use Rattle.relay.specs.Outcomes.{Act, accept, outcomeOf, replyAfter, stateAfter}
-use Rattle.relay.specs.Step.{asRules, surveyOf, onAsked, done}
+use Rattle.decisions.specs.Decisions.{asRules, roomFor, onAsked}
+use Rattle.relay.specs.Step.{done}
 use Rattle.client_reader.specs.Fields.{Bytes}
-use Rattle.history.specs.Counted.{Counted, nothing, gave, kept, allowed}
+use Rattle.history.specs.Counted.{nothing, kept}
 use Rattle.history.specs.Events.{CallFits, countsBy}
 use Rattle.history.specs.Statement.{Live}
 use Rattle.history.proofs.Table as table
 use Rattle.history.proofs.Table.{View, Frame, Quiet}
 use Rattle.history.proofs.Tests.{find-some, has-not, own-is, lapsed-is, none-own, none-port}
 use Rattle.history.proofs.Entries.{all-extends, bound-is, fresh-bare, fresh-neat}
+use Rattle.history.proofs.Asking.{asks-for}
 use Rattle.history.proofs.FreePort.{port-free, port-fits}
 use Rattle.history.proofs.Replies.{Unaccepted, dropped-unaccepted, to-peer-unaccepted, error-unaccepted, allocate-counts, refresh-counts, permission-counts, channel-counts}
 
@@ -116,17 +117,17 @@ module _ (call : FromClient) (st : State) (s reply : List ℕ) (full : length (s
   put-same k slot h = getD-set-same l k slot freshSlot h
 
   -- ---- Allocate
-  module _ (k : ℕ) (found : find (inSlot (lapsed (call .time))) l ≡ At k) (slot : Slot) (out : Out)
-      (e : allocate (asRules call) s (surveyOf call l) ≡ write slot out) where
+  module _ (asked : askedBy s ≡ Asked.Allocate) (k : ℕ) (found : find (inSlot (lapsed (call .time))) l ≡ At k) (slot : Slot) (out : Out)
+      (e : allocate (asRules call) s (roomFor call l) ≡ write slot out) where
     takes : Made (put k slot out)
     unfolding allocated freshSlot
     takes =
-        let r = allocates (asRules call) s slot out (surveyOf call l) e in
+        let r = allocates (asRules call) s slot out (roomFor call l) e in
         let f = find-some (inSlot (lapsed (call .time))) l freshSlot k found in
         let range = granted-range (lifetime s) in
-        let port = surveyOf call l .port in
+        let port = roomFor call l .port in
         let is : slotAt (set l k slot) k ≡ allocated (asRules call) port (granted (lifetime s)) = put-same k slot (f .1) ∙ r .slot-is in
-        rw (r .out-is, allocate-counts call s reply bytes port (granted (lifetime s)) (fits .0) (port-fits _ _) (omega arith) (fits .1 .0) (fits .1 .1)) (
+        rw (r .out-is, allocate-counts call s reply bytes port (granted (lifetime s)) (fits .0) (port-fits _ _) (omega arith) (fits .1) (asks-for Allocate s asked)) (
           refl,
           record {
             k = k;
@@ -143,21 +144,21 @@ module _ (call : FromClient) (st : State) (s reply : List ℕ) (full : length (s
           },
         )
 
-  made-allocate : Made (done st (find (inSlot (lapsed (call .time))) l) (allocate (asRules call) s (surveyOf call l)))
+  made-allocate : askedBy s ≡ Asked.Allocate → Made (done st (find (inSlot (lapsed (call .time))) l) (allocate (asRules call) s (roomFor call l)))
   unfolding allocate
-  made-allocate =
-      made-done (find (inSlot (lapsed (call .time))) l) (allocate (asRules call) s (surveyOf call l)) (respond-keeps _ _ s _ _ _)
-      (λ slot out e. allocates (asRules call) s slot out (surveyOf call l) e .room)
-      takes
+  made-allocate asked =
+      made-done (find (inSlot (lapsed (call .time))) l) (allocate (asRules call) s (roomFor call l)) (respond-keeps _ _ s _ _ _)
+      (λ slot out e. allocates (asRules call) s slot out (roomFor call l) e .room)
+      (takes asked)
 
   -- ---- The requests about the caller's own slot
   module _ (k : ℕ) (room : k < length l) (live : Live (call .time) (slotAt l k)) (mine : slotAt l k .allocation .«five_tuple» ≡ call .«five_tuple»)
       (own : Bool) (slot : Slot) (out : Out) where
-    refreshed-made : refresh (asRules call) s own (slotAt l k) ≡ write slot out → Made (put k slot out)
+    refreshed-made : askedBy s ≡ Asked.Refresh → refresh (asRules call) s own (slotAt l k) ≡ write slot out → Made (put k slot out)
     unfolding refreshed renewed freshSlot
-    refreshed-made e =
+    refreshed-made asked e =
         let r = refreshes (asRules call) s slot out own (slotAt l k) e in
-        rw (r .out-is, refresh-counts call s reply bytes seconds (small (granted-refresh-range (lifetime s))))
+        rw (r .out-is, refresh-counts call s reply bytes seconds (small (granted-refresh-range (lifetime s))) (asks-for Refresh s asked))
         (refl, go (eqb seconds 0) refl (put-same k slot room ∙ r .slot-is))
       where
         seconds : ℕ
@@ -187,13 +188,13 @@ module _ (call : FromClient) (st : State) (s reply : List ℕ) (full : length (s
               some-time = eqb-false _ _ z;
             })
 
-    permitted-made : createPermission (asRules call) s own (slotAt l k) ≡ write slot out → Made (put k slot out)
-    permitted-made e =
+    permitted-made : askedBy s ≡ Asked.CreatePermission → createPermission (asRules call) s own (slotAt l k) ≡ write slot out → Made (put k slot out)
+    permitted-made asked e =
         let r = permits (asRules call) s slot out own (slotAt l k) e in
         let x = all-extends (call .time) (peers s) (slotAt l k) (slotAt l k) (r .room) in
         let is : slotAt (set l k slot) k ≡ permitAll (call .time) (peers s) (slotAt l k) (slotAt l k) .slot = put-same k slot room ∙ r .slot-is in
         let g = x .grants in
-        rw (r .out-is, permission-counts call s reply bytes) (
+        rw (r .out-is, permission-counts call s reply bytes (asks-for CreatePermission s asked)) (
           refl,
           record {
             k = k;
@@ -209,15 +210,15 @@ module _ (call : FromClient) (st : State) (s reply : List ℕ) (full : length (s
           },
         )
 
-    bound-made : channelBind (asRules call) s own (slotAt l k) ≡ write slot out → Made (put k slot out)
-    bound-made e =
+    bound-made : askedBy s ≡ Asked.ChannelBind → channelBind (asRules call) s own (slotAt l k) ≡ write slot out → Made (put k slot out)
+    bound-made asked e =
         let r = binds (asRules call) s slot out own (slotAt l k) e in
         let peer = firstPeer s .peer in
-        let number = numberOf (channelNumber s) in
+        let number = numberGiven (channelNumber s) in
         let x = bound-is (call .time) number peer (slotAt l k) (r .peer-free) (r .permitted) (r .bound-ok) in
         let is : slotAt (set l k slot) k ≡ bound (call .time) number peer (slotAt l k) = put-same k slot room ∙ r .slot-is in
         let g = x .grants in
-        rw (r .out-is, channel-counts call s reply bytes) (
+        rw (r .out-is, channel-counts call s reply bytes (asks-for ChannelBind s asked)) (
           refl,
           record {
             k = k;
@@ -248,12 +249,12 @@ send-unaccepted call s own slot =
     (pick-unaccepted (ipv6Peer (firstPeer s)) e
     (pick-unaccepted (not (permitted (call .time) (firstPeer s .peer) slot)) (sentFrom call s slot place) (payload place)))))
   where
-    payload : (place : Place) → Unaccepted (sentFrom call s slot place)
+    payload : (place : ValuePlace) → Unaccepted (sentFrom call s slot place)
     payload (Value start len) = to-peer-unaccepted _ _ start len
     payload Absent = dropped-unaccepted
 
-channelled-unaccepted : (call : ClientCall) (s : List ℕ) (own : Bool) (slot : Slot) → Unaccepted (channelled call s own slot)
-unfolding channelled
+channelled-unaccepted : (call : ClientCall) (s : List ℕ) (own : Bool) (slot : Slot) → Unaccepted (sendChannelData call s own slot)
+unfolding sendChannelData
 channelled-unaccepted call s own slot = go (channelDataOf s)
   where
     go : (message : ChannelMessage) → Unaccepted (channelledFrom call slot own message)
@@ -292,18 +293,18 @@ module _ (call : FromClient) (st : State) (s reply : List ℕ) (full : length (s
   made-data rule u =
       made-own (λ own slot. keep (rule own slot)) (keeps _ (u _ _)) (λ slot out e. kept-not-written e) (λ k room live mine slot out e. kept-not-written e)
 
-  pub made-asked : (asked : Asked) → Makes (done st (onAsked call s (st .slots) asked .place) (onAsked call s (st .slots) asked .change))
+  pub made-asked : (asked : Asked) → askedBy s ≡ asked → Makes (done st (onAsked call s (st .slots) asked .place) (onAsked call s (st .slots) asked .change))
   unfolding found refresh createPermission channelBind
-  made-asked Asked.Allocate = made-allocate call st s reply full fits bytes
-  made-asked Asked.Refresh =
+  made-asked Asked.Allocate is = made-allocate call st s reply full fits bytes is
+  made-asked Asked.Refresh is =
       made-own (refresh (asRules call) s) (respond-keeps _ _ s _ _ _) (λ slot out e. refreshes (asRules call) s slot out _ _ e .owner .live)
-      (λ k room live mine slot out e. refreshed-made call st s reply full fits bytes k room live mine true slot out e)
-  made-asked Asked.CreatePermission =
+      (λ k room live mine slot out e. refreshed-made call st s reply full fits bytes k room live mine true slot out is e)
+  made-asked Asked.CreatePermission is =
       made-own (createPermission (asRules call) s) (respond-keeps _ _ s _ _ _) (λ slot out e. permits (asRules call) s slot out _ _ e .owner .live)
-      (λ k room live mine slot out e. permitted-made call st s reply full fits bytes k room live mine true slot out e)
-  made-asked Asked.ChannelBind =
+      (λ k room live mine slot out e. permitted-made call st s reply full fits bytes k room live mine true slot out is e)
+  made-asked Asked.ChannelBind is =
       made-own (channelBind (asRules call) s) (respond-keeps _ _ s _ _ _) (λ slot out e. binds (asRules call) s slot out _ _ e .owner .live)
-      (λ k room live mine slot out e. bound-made call st s reply full fits bytes k room live mine true slot out e)
-  made-asked Asked.Send = made-data (send (asRules call) s) (send-unaccepted (asRules call) s)
-  made-asked Asked.ChannelData = made-data (channelled (asRules call) s) (channelled-unaccepted (asRules call) s)
-  made-asked Asked.Nothing = made-stay call st s reply full fits bytes dropped dropped-unaccepted
+      (λ k room live mine slot out e. bound-made call st s reply full fits bytes k room live mine true slot out is e)
+  made-asked Asked.Send is = made-data (send (asRules call) s) (send-unaccepted (asRules call) s)
+  made-asked Asked.ChannelData is = made-data (sendChannelData (asRules call) s) (channelled-unaccepted (asRules call) s)
+  made-asked Asked.Nothing is = made-stay call st s reply full fits bytes dropped dropped-unaccepted

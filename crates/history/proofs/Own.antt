@@ -13,7 +13,7 @@ use Rattle.address.specs.declared.FiveTuple.{FiveTuple}
 use Rattle.address.specs.Address.{sameFiveTuple}
 use Rattle.address.proofs.Laws.{five-tuple-refl}
 use Rattle.history.specs.Counted.{Counted, gave, kept, allowed, nothing}
-use Rattle.history.specs.Statement.{FromAllocate, FromRefresh, GoesTo}
+use Rattle.history.specs.Statement.{Lasts, FromAllocate, FromRefresh, GoesTo}
 use Rattle.history.proofs.Tests.{clash}
 
 -- ---- Those of a list that pass a test
@@ -56,31 +56,32 @@ module _ {A : Type 0} (p : A → Bool) where
       go false m ih = List·Memᴰ·tail (ih m)
 
   -- where what passes is parted at x, so is the list
-  record Parted (l : List A) (x : A) (r : List A) : Type 0 where
-    before : List A
-    since : List A
-    whole : l ≡ before ++ x ∷ since
-    rest : only p since ≡ r
+  record Parted (l : List A) (x : A) (f : List A) : Type 0 where
+    front : List A
+    back : List A
+    whole : l ≡ front ++ x ∷ back
+    passed : only p front ≡ f
 
-  parted : (l b r : List A) (x : A) → only p l ≡ b ++ x ∷ r → Parted l x r
+  parted : (l f r : List A) (x : A) → only p l ≡ f ++ x ∷ r → Parted l x f
   unfolding only
   parted [] [] r x e = let z : _≡_ {A = ℕ} 0 1 = cc in let y : ⊥ = omega arith in absurd y
-  parted [] (z ∷ b) r x e = let z : _≡_ {A = ℕ} 0 1 = cc in let y : ⊥ = omega arith in absurd y
-  parted (y ∷ l) b r x e = go (p y) b e (parted l)
+  parted [] (z ∷ f) r x e = let z : _≡_ {A = ℕ} 0 1 = cc in let y : ⊥ = omega arith in absurd y
+  parted (y ∷ l) f r x e = go (p y) refl f e (parted l)
     where
-      further : Parted l x r → Parted (y ∷ l) x r
-      further w = record { before = y ∷ w .before; since = w .since; whole = ap (λ (z : List A). y ∷ z) (w .whole); rest = w .rest }
+      more : {f g : List A} (w : Parted l x f) → pick (p y) (y ∷ only p (w .front)) (only p (w .front)) ≡ g → Parted (y ∷ l) x g
+      more w q = record { front = y ∷ w .front; back = w .back; whole = ap (λ (z : List A). y ∷ z) (w .whole); passed = q }
 
-      go : (c : Bool) (b : List A) → pick c (y ∷ only p l) (only p l) ≡ b ++ x ∷ r → ((b r : List A) (x : A) → only p l ≡ b ++ x ∷ r → Parted l x r) → Parted (y ∷ l) x r
-      go false b e ih = further (ih b r x e)
-      go true [] e ih = let q : y ≡ x = cc in record { before = []; since = l; whole = ap (λ (z : A). z ∷ l) q; rest = cc }
-      go true (z ∷ b) e ih = further (ih b r x (cc))
+      go : (c : Bool) → p y ≡ c → (f : List A) → pick c (y ∷ only p l) (only p l) ≡ f ++ x ∷ r
+          → ((f r : List A) (x : A) → only p l ≡ f ++ x ∷ r → Parted l x f) → Parted (y ∷ l) x f
+      go false c f e ih = let w = ih f r x e in more w (rw c (w .passed))
+      go true c [] e ih = let q : y ≡ x = cc in record { front = []; back = l; whole = ap (λ (z : A). z ∷ l) q; passed = refl }
+      go true c (z ∷ f) e ih = let w = ih f r x (cc) in let q : y ≡ z = cc in let v = w .passed in more w (rw c (cc))
 
 -- ---- The events that concern C at R
 abbrev pub concerns : FiveTuple → ℕ → Counted → Bool
 concerns C R (gave D P s n) = pick (sameFiveTuple D C) true (eqb P R)
 concerns C R (kept D s n) = sameFiveTuple D C
-concerns C R (allowed D xs s) = sameFiveTuple D C
+concerns C R (allowed D xs ends) = sameFiveTuple D C
 concerns C R nothing = false
 
 module _ (C : FiveTuple) (R : ℕ) where
@@ -100,79 +101,76 @@ module _ (C : FiveTuple) (R : ℕ) where
   module _ {a : Address} {t : ℕ} where
     to-own : (list : List Counted) → GoesTo list C R a t → GoesTo (about list) C R a t
     to-own list g = record {
-      before = about (g .before);
       since = about (g .since);
+      before = about (g .before);
       s = g .s;
       n = g .n;
-      allocate = ap about (g .allocate) ∙ only-split (concerns C R) (g .before) (g .since) _ (own-gift R (g .s) (g .n));
+      allocate = ap about (g .allocate) ∙ only-split (concerns C R) (g .since) (g .before) _ (own-gift R (g .s) (g .n));
       latest = λ P s n m. g .latest P s n (only-out (concerns C R) (g .since) m);
       alone = λ D s n m. g .alone D s n (only-out (concerns C R) (g .since) m);
-      lifetime = lasts (g .lifetime);
+      lifetime = lifetime (g .lifetime);
       permission = record {
         addresses = g .permission .addresses;
-        s = g .permission .s;
+        ends = g .permission .ends;
         accepted = only-in (concerns C R) (g .since) (five-tuple-refl C) (g .permission .accepted);
         named = g .permission .named;
         recent = g .permission .recent;
       };
     }
       where
-        lasts : FromAllocate C t (g .s) (g .n) (g .since) ⊎ FromRefresh C t (g .since)
+        lifetime : FromAllocate C t (g .s) (g .n) (g .since) ⊎ FromRefresh C t (g .since)
             → FromAllocate C t (g .s) (g .n) (about (g .since)) ⊎ FromRefresh C t (about (g .since))
-        lasts (inl o) = inl (record { none-since = λ s n m. o .none-since s n (only-out (concerns C R) (g .since) m); not-zero = o .not-zero; not-over = o .not-over })
-        lasts (inr f) =
+        lifetime (inl o) = inl (record { none-since = λ s n m. o .none-since s n (only-out (concerns C R) (g .since) m); lasts = o .lasts })
+        lifetime (inr f) =
             inr
             (record {
-              older = about (f .older);
               newer = about (f .newer);
+              older = about (f .older);
               s = f .s;
               n = f .n;
-              refresh = ap about (f .refresh) ∙ only-split (concerns C R) (f .older) (f .newer) _ (five-tuple-refl C);
+              refresh = ap about (f .refresh) ∙ only-split (concerns C R) (f .newer) (f .older) _ (five-tuple-refl C);
               last = λ s n m. f .last s n (only-out (concerns C R) (f .newer) m);
-              not-zero = f .not-zero;
-              not-over = f .not-over;
+              lasts = f .lasts;
             })
 
     of-own : (list : List Counted) → GoesTo (about list) C R a t → GoesTo list C R a t
-    of-own list g = go (parted (concerns C R) list (g .before) (g .since) _ (g .allocate))
+    of-own list g = go (parted (concerns C R) list (g .since) (g .before) _ (g .allocate))
       where
-        lasts : (since : List Counted) → FromAllocate C t (g .s) (g .n) (about since) ⊎ FromRefresh C t (about since)
+        lifetime : (since : List Counted) → FromAllocate C t (g .s) (g .n) (about since) ⊎ FromRefresh C t (about since)
             → FromAllocate C t (g .s) (g .n) since ⊎ FromRefresh C t since
-        lasts since (inl o) =
+        lifetime since (inl o) =
             inl
             (record {
               none-since = λ s n m. o .none-since s n (only-in (concerns C R) since (five-tuple-refl C) m);
-              not-zero = o .not-zero;
-              not-over = o .not-over;
+              lasts = o .lasts;
             })
-        lasts since (inr f) =
-            let w = parted (concerns C R) since (f .older) (f .newer) (kept C (f .s) (f .n)) (f .refresh) in
+        lifetime since (inr f) =
+            let w = parted (concerns C R) since (f .newer) (f .older) (kept C (f .s) (f .n)) (f .refresh) in
             inr
             (record {
-              older = w .before;
-              newer = w .since;
+              newer = w .front;
+              older = w .back;
               s = f .s;
               n = f .n;
               refresh = w .whole;
-              last = λ s n m. f .last s n (subst (List·Memᴰ (kept C s n)) (w .rest) (only-in (concerns C R) (w .since) (five-tuple-refl C) m));
-              not-zero = f .not-zero;
-              not-over = f .not-over;
+              last = λ s n m. f .last s n (subst (List·Memᴰ (kept C s n)) (w .passed) (only-in (concerns C R) (w .front) (five-tuple-refl C) m));
+              lasts = f .lasts;
             })
 
         go : Parted (concerns C R) list (gave C R (g .s) (g .n)) (g .since) → GoesTo list C R a t
         go w = record {
-          before = w .before;
-          since = w .since;
+          since = w .front;
+          before = w .back;
           s = g .s;
           n = g .n;
           allocate = w .whole;
-          latest = λ P s n m. g .latest P s n (subst (List·Memᴰ (gave C P s n)) (w .rest) (only-in (concerns C R) (w .since) (own-gift P s n) m));
-          alone = λ D s n m. g .alone D s n (subst (List·Memᴰ (gave D R s n)) (w .rest) (only-in (concerns C R) (w .since) (gift-of D s n) m));
-          lifetime = lasts (w .since) (rw (← w .rest) at (g .lifetime));
+          latest = λ P s n m. g .latest P s n (subst (List·Memᴰ (gave C P s n)) (w .passed) (only-in (concerns C R) (w .front) (own-gift P s n) m));
+          alone = λ D s n m. g .alone D s n (subst (List·Memᴰ (gave D R s n)) (w .passed) (only-in (concerns C R) (w .front) (gift-of D s n) m));
+          lifetime = lifetime (w .front) (rw (← w .passed) at (g .lifetime));
           permission = record {
             addresses = g .permission .addresses;
-            s = g .permission .s;
-            accepted = only-out (concerns C R) (w .since) (rw (← w .rest) at (g .permission .accepted));
+            ends = g .permission .ends;
+            accepted = only-out (concerns C R) (w .front) (rw (← w .passed) at (g .permission .accepted));
             named = g .permission .named;
             recent = g .permission .recent;
           };

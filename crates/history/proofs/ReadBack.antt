@@ -1,303 +1,357 @@
--- Demand 2's last sentence, of what the relay leaves in the reply: the clients' reader gives back the fields that were put in.
-use Prim.Native.Nat.{ℕ, _-_, _≤_, _<_, _^_}
+-- Demand 2's last words, of what the relay leaves in the reply: the clients' reader gives back the fields that went in.
+use Prim.Native.Nat.{ℕ, _+_, _-_, _≤_, _<_, _^_}
 use mathlib.Core.Path.{_≡_, refl, sym, ap, _∙_}
 use mathlib.Core.Logic.{_⊎_, inl, inr}
-use mathlib.Core.Bool.{Bool, true, false, not}
-use mathlib.Core.List.{List, _++_}
+use mathlib.Core.Bool.{Bool, true, false, not, false≢true}
+use mathlib.Core.List.{List, []}
 use native.Mathlib.Omega.{arith}
 use lib.Dec.{eqb, lit<}
-use lib.ListN.{length, take, drop, replicate, length-append}
-use lib.Seq.{take-at, take-length}
+use lib.ListN.{length, take, drop, set, replicate}
+use lib.Seq.{take-at, getD-set-same}
 use borrow.Author.Tests.{eqb-true, eqb-false}
-use Rattle.wire.specs.Wire.{bytesOf}
 use Rattle.choice.specs.Choice.{pick}
 use Rattle.address.specs.declared.Address.{Address}
 use Rattle.address.specs.declared.Address.the-variants.{V4, V6}
 use Rattle.address.specs.declared.FiveTuple.{FiveTuple}
-use Rattle.address.specs.declared.Peer.{Peer as Transport}
+use Rattle.address.specs.declared.TransportAddress.{TransportAddress}
 use Rattle.address.specs.declared.TransactionId.{TransactionId}
 use Rattle.stun.specs.declared.kinds.Method.{Method}
-use Rattle.stun.specs.declared.kinds.Method.the-variants.{CreatePermission, ChannelBind}
-use Rattle.stun.specs.declared.message.Found.{Found as Place}
-use Rattle.stun.specs.declared.message.Found.the-variants.{Value, Absent}
+use Rattle.stun.specs.declared.kinds.Method.the-variants.{Allocate, Refresh, CreatePermission, ChannelBind}
+use Rattle.stun.specs.declared.message.ValuePlace.{ValuePlace}
+use Rattle.stun.specs.declared.message.ValuePlace.the-variants.{Value, Absent}
 use Rattle.stun.specs.declared.channel_data.ChannelMessage.{ChannelMessage}
 use Rattle.stun.specs.declared.channel_data.ChannelMessage.the-variants.{Data, Malformed}
 use Rattle.stun.specs.AttributeNumbers as attribute
 use Rattle.stun.specs.Message.{attributes, firstOf, unknownTypes, channelDataOf}
 use Rattle.stun.specs.Values.{transactionId, firstPeer}
-use Rattle.messages.specs.Messages.{padding, allocateSuccess, refreshSuccess, bareSuccess, errorResponse, unknownResponse, dataIndication, channelData}
-use Rattle.table.specs.declared.Slot.{Slot}
-use Rattle.table.specs.declared.Found.{Found}
-use Rattle.table.specs.declared.Found.the-variants.{At, Nothing}
-use Rattle.table.specs.Search.{find, has, atOr}
-use Rattle.table.specs.Table.{freshSlot, freshChannel, numbered, leadsTo}
+use Rattle.messages.specs.Messages.{allocateSuccess, refreshSuccess, bareSuccess, errorResponse, unknownResponse, dataIndication, channelData}
+use Rattle.slot.specs.declared.Slot.{Slot}
+use Rattle.slot.specs.declared.Found.{Found}
+use Rattle.slot.specs.declared.Found.the-variants.{At, Nothing}
+use Rattle.slot.specs.Search.{find, has, atOr}
+use Rattle.slot.specs.Slot.{freshSlot, freshChannel, numbered, leadsTo}
+use Rattle.table.specs.Inner.{Within}
+use Rattle.table.proofs.Laws.{found-within}
 use Rattle.rules.specs.declared.answer.Outcome.the-variants.{ToClient}
-use Rattle.rules.specs.Act as rules
-use Rattle.rules.specs.Act.{Out, dropped, toClient, toPeer, Change, keep, write, outOf, errorMessage, respond}
-use Rattle.rules.specs.Values.{lifetime, grantedRefresh, anyUnknown, isIpv6, ipv4Of, malformedPeer, ipv6Peer}
-use Rattle.rules.specs.Requests.{allocate, refresh, createPermission, channelBind}
-use Rattle.rules.specs.Data.{permitted, sentFrom, send, channelledFrom, channelled, relayed, fromPeer}
-use Rattle.rules.specs.declared.client.Asked.{Asked}
-use Rattle.rules.specs.declared.client.Asked.the-variants as Asked
-use Rattle.rules.specs.Client.{askedBy}
-use Rattle.rules.proofs.Accepted.{granted-range, granted-refresh-range}
-use Rattle.relay.specs.declared.incoming.Call.{Call}
-use Rattle.relay.specs.declared.incoming.Call.the-variants.{Client, Peer}
-use Rattle.relay.specs.declared.incoming.FromClient.{FromClient}
+use Rattle.rules.specs.Change as rules
+use Rattle.rules.specs.Change.{Out, dropped, toClient, toPeer, Change, keep, write, outOf, errorMessage, respond}
+use Rattle.rules.specs.Inner.{slotAfter}
+use Rattle.rules.specs.Values.{lifetime, anyUnknown, isIpv6, ipv4Of, malformedPeer, ipv6Peer}
+use Rattle.allocation_rules.specs.Allocations.{allocated, allocate, renewed, refreshed, refresh, granted, grantedRefresh}
+use Rattle.permission_rules.specs.Permissions.{createPermission, channelBind}
+use Rattle.data_rules.specs.Data.{permitted, sentFrom, send, channelledFrom, sendChannelData, relayed, relayFromPeer}
+use Rattle.decisions.specs.declared.client.Asked.{Asked}
+use Rattle.decisions.specs.declared.client.Asked.the-variants as Asked
+use Rattle.decisions.specs.Client.{askedBy}
+use Rattle.rules.proofs.Laws.{kept-not-written}
+use Rattle.allocation_rules.proofs.Laws.{granted-small, granted-refresh-small}
+use Rattle.interface.specs.declared.incoming.Call.{Call}
+use Rattle.interface.specs.declared.incoming.Call.the-variants.{Client, Peer}
+use Rattle.interface.specs.declared.incoming.FromClient.{FromClient}
+use Rattle.interface.specs.declared.incoming.FromPeer.{FromPeer}
 use Rattle.relay.specs.State.{State, clockOf, atTime}
-use Rattle.relay.specs.Outcomes.{Act, refuse, accept, outcomeOf, replyAfter}
-use Rattle.relay.specs.Refusals.{timeOf, lengths, refusal}
-use Rattle.relay.specs.Step.{asRules, surveyOf, onAsked, decided, done, accepted, act}
-use Rattle.relay.specs.Inner.{Ready}
+use Rattle.relay.specs.Outcomes.{Act, refuse, accept, outcomeOf, stateAfter, replyAfter}
+use Rattle.interface.specs.Refusals.{timeOf, lengths, refusal}
+use Rattle.decisions.specs.Decisions.{asRules, roomFor, onAsked, decided}
+use Rattle.relay.specs.Step.{done, accepted, act}
+use Rattle.decisions.specs.Inner.{Ready}
 use Rattle.relay.proofs.Laws.{not-refused}
+use Rattle.decisions.proofs.Laws.{decided-writes}
 use Rattle.client_reader.specs.declared.Message.the-variants as Is
 use Rattle.client_reader.specs.declared.ReadMessage.{ReadMessage}
-use Rattle.client_reader.specs.Fields.{Bytes, IdFits, AddressFits, IsBare, IsMessage, InRange, written}
-use Rattle.client_reader.specs.Reader.{plain, readOf}
-use Rattle.client_reader.proofs.Laws.{unique, read-allocate, read-refresh, read-bare, read-error, read-unknown, read-indication, read-channel-data}
-use Rattle.history.specs.Events.{CallFits, TransportFits, Arrival, acts, outcome, replied}
+use Rattle.client_reader.specs.Fields.{Bytes, IdFits, AddressFits, IsBare, IsMessage, InRange, written, dataOf, plain, nothing, Exact}
+use Rattle.client_reader.proofs.Laws.{written-read, message-exact, one-reading, indication-within, indication-data, channel-within, channel-data}
+use Rattle.history.specs.Events.{CallFits, TransportFits, Arrival, acts}
+use Rattle.history.specs.ReadBack.{ownPlace, freePlace, slotIn, unknownFor, errorFor, responseFor, relayedFor, answerFor, fieldsFor, dataFor, ReadAs, ReadBack}
 use Rattle.history.proofs.Tests.{find-some, leads-is}
 use Rattle.history.proofs.FreePort.{port-fits}
 use Rattle.history.proofs.Replies.{id-fits}
 use Rattle.history.proofs.Codes.{Coded, allocate-coded, refresh-coded, permission-coded, channel-coded, types-in-range}
 
--- fields in range that make these bytes, and the reader gives them
-pub record ReadBack (message : List ℕ) : Type 0 where
-  pub fields : ReadMessage
-  pub is-message : IsMessage fields
-  pub in-range : InRange fields message
-  pub made : written fields message ≡ message
-  pub read : readOf message ≡ fields
-
-abbrev pub Readable : Out → Type 0
-Readable dropped = Unit
-Readable (toClient fiveTuple message) = ReadBack message
-Readable (toPeer port peer start len) = Unit
-
--- no other fields make them: what is read is what was put in
-pub only-fields : {message : List ℕ} (r : ReadBack message) (m : ReadMessage) → IsMessage m → InRange m message → written m message ≡ message → m ≡ r .fields
-only-fields {message} r m is h w = unique message m (r .fields) is (r .is-message) h (r .in-range) w (r .made)
-
-unless : (b : Bool) (out : Out) → Readable out → Readable (pick b dropped out)
-unless true out r = tt
-unless false out r = r
-
 -- ---- Each message
+
+read-as : (m : ReadMessage) (payload message : List ℕ) → IsMessage m → InRange m message → written m message ≡ message → dataOf (m .message) message ≡ payload
+    → ReadAs m payload message
+read-as m payload message is r w d = record { is-message = is; exact = message-exact message m is r w; read = written-read message m is r w; shown = d }
+
 module _ (id : TransactionId) (h : IdFits id) where
-  allocate-back : (relay port seconds : ℕ) (client : Transport) → relay < 2 ^ 32 → port < 2 ^ 16 → seconds < 2 ^ 32 → TransportFits client
-      → ReadBack (allocateSuccess id relay port seconds client)
-  allocate-back relay port seconds client hr hp hs hc = record {
-    fields = plain (Is.AllocateSuccess id relay port seconds client);
-    is-message = λ e. let z : _≡_ {A = ℕ} 0 1 = cc in omega arith;
-    in-range = (h, hr, hp, hs, hc .0, hc .1, refl);
-    made = refl;
-    read = read-allocate id h relay port seconds client hr hp hs (hc .0) (hc .1);
-  }
+  allocate-back : (relay port seconds : ℕ) (client : TransportAddress) {port′ seconds′ : ℕ} → relay < 2 ^ 32 → port < 2 ^ 16 → seconds < 2 ^ 32 → TransportFits client
+      → port′ ≡ port → seconds′ ≡ seconds
+      → ReadAs (plain (Is.AllocateSuccess id relay port′ seconds′ client)) [] (allocateSuccess id relay port seconds client)
+  allocate-back relay port seconds client hr hp hs hc p q =
+      rw (p, q) (read-as _ _ _ (λ e. let z : _≡_ {A = ℕ} 0 1 = cc in omega arith) (h, hr, hp, hs, hc .0, hc .1, refl) refl refl)
 
-  refresh-back : (seconds : ℕ) → seconds < 2 ^ 32 → ReadBack (refreshSuccess id seconds)
-  refresh-back seconds hs = record {
-    fields = plain (Is.RefreshSuccess id seconds);
-    is-message = λ e. let z : _≡_ {A = ℕ} 0 1 = cc in omega arith;
-    in-range = (h, hs, refl);
-    made = refl;
-    read = read-refresh id h seconds hs;
-  }
+  refresh-back : (seconds : ℕ) {seconds′ : ℕ} → seconds < 2 ^ 32 → seconds′ ≡ seconds
+      → ReadAs (plain (Is.RefreshSuccess id seconds′)) [] (refreshSuccess id seconds)
+  refresh-back seconds hs q = rw q (read-as _ _ _ (λ e. let z : _≡_ {A = ℕ} 0 1 = cc in omega arith) (h, hs, refl) refl refl)
 
-  bare-back : (method : Method) → IsBare method → ReadBack (bareSuccess method id)
-  bare-back method b = record {
-    fields = plain (Is.BareSuccess method id);
-    is-message = λ e. let z : _≡_ {A = ℕ} 0 1 = cc in omega arith;
-    in-range = (h, b, refl);
-    made = refl;
-    read = read-bare id h method b;
-  }
+  bare-back : (method : Method) → IsBare method → ReadAs (plain (Is.BareSuccess method id)) [] (bareSuccess method id)
+  bare-back method b = read-as _ _ _ (λ e. let z : _≡_ {A = ℕ} 0 1 = cc in omega arith) (h, b, refl) refl refl
 
-  error-back : (method : Method) (code : ℕ) → 300 ≤ code → code ≤ 699 → (code ≡ 420 → ⊥) → ReadBack (errorResponse method id code)
-  error-back method code low high other = record {
-    fields = plain (Is.Error method id code);
-    is-message = λ e. let z : _≡_ {A = ℕ} 0 1 = cc in omega arith;
-    in-range = (h, low, high, other, refl);
-    made = refl;
-    read = read-error id h method code low high other;
-  }
+  error-back : (method : Method) (code : ℕ) → 300 ≤ code → code ≤ 699 → (code ≡ 420 → ⊥)
+      → ReadAs (plain (Is.Error method id code)) [] (errorResponse method id code)
+  error-back method code low high other = read-as _ _ _ (λ e. let z : _≡_ {A = ℕ} 0 1 = cc in omega arith) (h, low, high, other, refl) refl refl
 
-  unknown-back : (method : Method) (s : List ℕ) → anyUnknown s ≡ true → ReadBack (unknownResponse method id (unknownTypes s))
-  unknown-back method s e =
-      let count = length (unknownTypes s) in
-      let types = unknownTypes s ++ replicate (16 - count) 0 in
-      let same : take count types ≡ unknownTypes s = take-at (unknownTypes s) (replicate (16 - count) 0) count refl in
-      record {
-        fields = record { message = Is.UnknownAttributes method id count; types = types };
-        is-message = λ e. let z : _≡_ {A = ℕ} 0 1 = cc in omega arith;
-        in-range = (h, types-in-range s e);
-        made = ap (unknownResponse method id) same;
-        read = ap (λ (l : List ℕ). readOf (unknownResponse method id l)) (sym same) ∙ read-unknown id h method count types (types-in-range s e);
-      }
+  indication-back : (peer port : ℕ) (payload : List ℕ) → peer < 2 ^ 32 → port < 2 ^ 16 → length payload ≤ 1500
+      → ReadAs (plain (Is.DataIndication id peer port 36 (length payload))) payload (dataIndication id peer port payload)
+  indication-back peer port payload ha hp few =
+      let shown = indication-data id peer port payload in
+      read-as _ _ _ (λ e. let z : _≡_ {A = ℕ} 0 1 = cc in omega arith)
+      (h, ha, hp, record { from = refl; few = few; within = indication-within id peer port payload }, refl)
+      (ap (dataIndication id peer port) shown) shown
 
-  indication-back : (peer port : ℕ) (payload : List ℕ) → peer < 2 ^ 32 → port < 2 ^ 16 → length payload ≤ 1500 → ReadBack (dataIndication id peer port payload)
-  unfolding dataIndication bytesOf
-  indication-back peer port payload ha hp few = record {
-    fields = plain (Is.DataIndication id peer port 36 (length payload));
-    is-message = λ e. let z : _≡_ {A = ℕ} 0 1 = cc in omega arith;
-    in-range = (h, ha, hp, record { from = refl; few = few; within = omega (arith, length-append payload (replicate (padding (length payload)) 0)) }, refl);
-    made = ap (dataIndication id peer port) (take-at payload (replicate (padding (length payload)) 0) (length payload) refl);
-    read = read-indication id h peer port payload ha hp few;
-  }
+channel-back : (number : ℕ) (payload : List ℕ) → 0x4000 ≤ number → number ≤ 0x4fff → length payload ≤ 1500
+    → ReadAs (plain (Is.ChannelData number 4 (length payload))) payload (channelData number payload)
+channel-back number payload low high few =
+    let shown = channel-data number payload in
+    read-as _ _ _ (λ e. let z : _≡_ {A = ℕ} 0 1 = cc in omega arith)
+    (low, high, record { from = refl; few = few; within = channel-within number payload }, refl)
+    (ap (channelData number) shown) shown
 
-channel-back : (number : ℕ) (payload : List ℕ) → 0x4000 ≤ number → number ≤ 0x4fff → length payload ≤ 1500 → ReadBack (channelData number payload)
-unfolding channelData bytesOf
-channel-back number payload low high few = record {
-  fields = plain (Is.ChannelData number 4 (length payload));
-  is-message = λ e. let z : _≡_ {A = ℕ} 0 1 = cc in omega arith;
-  in-range = (low, high, record { from = refl; few = few; within = omega arith }, refl);
-  made = ap (channelData number) (take-length payload);
-  read = read-channel-data number payload low high few;
-}
+-- ---- What goes out, and the slots that a decision leaves
+
+-- what goes to a client is read as these fields
+abbrev Readable : ReadMessage → List ℕ → Out → Type 0
+Readable fields payload dropped = Unit
+Readable fields payload (toClient fiveTuple message) = ReadAs fields payload message
+Readable fields payload (toPeer port peer start len) = Unit
+
+unless : (fields : ReadMessage) (payload : List ℕ) (b : Bool) (out : Out) → Readable fields payload out → Readable fields payload (pick b dropped out)
+unless fields payload true out r = tt
+unless fields payload false out r = r
+
+-- a slot that is written stands at its place, and where none is, the slots are as they were
+record Left (before after : List Slot) (place : Found) (change : Change) : Type 0 where
+  wrote : (slot : Slot) (out : Out) → change ≡ write slot out → slotIn after place ≡ slot
+  kept : (out : Out) → change ≡ keep out → after ≡ before
 
 -- ---- Requests
+
+-- LIFETIME is what is left of a refreshed slot's time
+until-expiry : (time seconds : ℕ) (was : Slot) {slot : Slot} → slot ≡ refreshed time seconds was → slot .allocation .expiry - time ≡ seconds
+unfolding refreshed renewed freshSlot
+until-expiry time seconds was e = rw e (go (eqb seconds 0) refl)
+  where
+    go : (b : Bool) → eqb seconds 0 ≡ b → pick b freshSlot (renewed (time + seconds) was) .allocation .expiry - time ≡ seconds
+    go true z = omega (arith, eqb-true seconds 0 z)
+    go false z = omega arith
+
 module _ (s : List ℕ) (bytes : Bytes s) where
-  error-message-back : (method : Method) (code : ℕ) → Coded s code → (code ≡ 0 → ⊥) → ReadBack (errorMessage method s code)
+  unknown-back : (method : Method) → anyUnknown s ≡ true → ReadAs (unknownFor method s) [] (unknownResponse method (transactionId s) (unknownTypes s))
+  unknown-back method e =
+      read-as _ _ _ (λ e. let z : _≡_ {A = ℕ} 0 1 = cc in omega arith) (id-fits s bytes, types-in-range s e)
+      (ap (unknownResponse method (transactionId s)) (take-at (unknownTypes s) (replicate (16 - length (unknownTypes s)) 0) (length (unknownTypes s)) refl)) refl
+
+  error-message-back : (method : Method) (code : ℕ) → Coded s code → (code ≡ 0 → ⊥) → ReadAs (errorFor method s code) [] (errorMessage method s code)
   unfolding errorMessage
   error-message-back method code h ne = go (eqb code 420) refl (h .range)
     where
       go : (b : Bool) → eqb code 420 ≡ b → (code ≡ 0) ⊎ ((300 ≤ code) × (code ≤ 699))
-          → ReadBack (pick b (unknownResponse method (transactionId s) (unknownTypes s)) (errorResponse method (transactionId s) code))
+          → ReadAs (pick b (unknownFor method s) (plain (Is.Error method (transactionId s) code))) []
+          (pick b (unknownResponse method (transactionId s) (unknownTypes s)) (errorResponse method (transactionId s) code))
       go b e (inl z) = absurd (ne z)
-      go true e (inr r) = unknown-back (transactionId s) (id-fits s bytes) method s (h .unknown (eqb-true code 420 e))
+      go true e (inr r) = unknown-back method (h .unknown (eqb-true code 420 e))
       go false e (inr r) = error-back (transactionId s) (id-fits s bytes) method code (r .0) (r .1) (eqb-false code 420 e)
 
-  respond-back : (fiveTuple : FiveTuple) (method : Method) (code : ℕ) (accepted : Change) → Coded s code → Readable (outOf accepted)
-      → Readable (outOf (respond fiveTuple method s code accepted))
+  -- an accepted request writes its slot
+  answered-by : (fiveTuple : FiveTuple) (method : Method) (code : ℕ) (accepted : Change) → code ≡ 0 → respond fiveTuple method s code accepted ≡ accepted
   unfolding respond
-  respond-back fiveTuple method code accepted h r = go (eqb code 0) refl
+  answered-by fiveTuple method code accepted e = rw e refl
+
+  respond-back : (fiveTuple : FiveTuple) (method : Method) (code : ℕ) (success : ReadMessage) (accepted : Change) → Coded s code
+      → (code ≡ 0 → Readable success [] (outOf accepted))
+      → Readable (pick (eqb code 0) success (errorFor method s code)) [] (outOf (respond fiveTuple method s code accepted))
+  unfolding respond
+  respond-back fiveTuple method code success accepted h r = go (eqb code 0) refl
     where
-      go : (b : Bool) → eqb code 0 ≡ b → Readable (outOf (pick b accepted (keep (toClient fiveTuple (errorMessage method s code)))))
-      go true e = r
+      go : (b : Bool) → eqb code 0 ≡ b
+          → Readable (pick b success (errorFor method s code)) [] (outOf (pick b accepted (keep (toClient fiveTuple (errorMessage method s code)))))
+      go true e = r (eqb-true code 0 e)
       go false e = error-message-back method code h (eqb-false code 0 e)
 
-  module _ (call : FromClient) (fits : CallFits (Client call)) where
-    allocate-readable : (l : List Slot) → Readable (outOf (allocate (asRules call) s (surveyOf call l)))
-    unfolding allocate
-    allocate-readable l =
-        let range = granted-range (lifetime s) in
-        respond-back _ _ _ _ (allocate-coded s (asRules call) (surveyOf call l))
-        (allocate-back (transactionId s) (id-fits s bytes) _ _ _ _ (fits .0) (port-fits _ _) (omega arith) (fits .1))
+  module _ (call : FromClient) (fits : CallFits (Client call)) (before after : List Slot) where
+    abbrev own : Bool
+    own = has (ownPlace call before)
 
-    refresh-readable : (own : Bool) (slot : Slot) → Readable (outOf (refresh (asRules call) s own slot))
+    abbrev slot : Slot
+    slot = slotIn before (ownPlace call before)
+
+    allocate-readable : Left before after (freePlace call before) (allocate (asRules call) s (roomFor call before))
+        → Readable (responseFor call s before after Allocate) [] (outOf (allocate (asRules call) s (roomFor call before)))
+    unfolding allocate allocated
+    allocate-readable left =
+        respond-back _ _ _ _ _ (allocate-coded s (asRules call) (roomFor call before)) (λ e.
+        let small = granted-small (lifetime s) in
+        let made = left .wrote _ _ (answered-by _ _ _ _ e) in
+        let port : slotIn after (freePlace call before) .allocation .port ≡ roomFor call before .port = rw made refl in
+        let seconds : slotIn after (freePlace call before) .allocation .expiry - call .time ≡ granted (lifetime s) = rw made (omega arith) in
+        allocate-back (transactionId s) (id-fits s bytes) _ _ _ _ (fits .0) (port-fits _ _) (omega arith) (fits .1) port seconds)
+
+    refresh-readable : Left before after (ownPlace call before) (refresh (asRules call) s own slot)
+        → Readable (responseFor call s before after Refresh) [] (outOf (refresh (asRules call) s own slot))
     unfolding refresh
-    refresh-readable own slot =
-        respond-back _ _ _ _ (refresh-coded s (asRules call) own slot)
-        (refresh-back (transactionId s) (id-fits s bytes) (grantedRefresh (lifetime s)) (small (granted-refresh-range (lifetime s))))
-      where
-        small : (grantedRefresh (lifetime s) ≡ 0) ⊎ ((600 ≤ grantedRefresh (lifetime s)) × (grantedRefresh (lifetime s) ≤ 3600)) → grantedRefresh (lifetime s) < 2 ^ 32
-        small (inl z) = omega arith
-        small (inr z) = omega arith
+    refresh-readable left =
+        respond-back _ _ _ _ _ (refresh-coded s (asRules call) _ _) (λ e.
+        let small = granted-refresh-small (lifetime s) in
+        let made = left .wrote _ _ (answered-by _ _ _ _ e) in
+        refresh-back (transactionId s) (id-fits s bytes) _ (omega arith)
+        (until-expiry (call .time) (grantedRefresh (lifetime s)) slot made))
 
-    permission-readable : (own : Bool) (slot : Slot) → Readable (outOf (createPermission (asRules call) s own slot))
+    permission-readable : Readable (responseFor call s before after CreatePermission) [] (outOf (createPermission (asRules call) s own slot))
     unfolding createPermission
-    permission-readable own slot =
-        respond-back _ _ _ _ (permission-coded s (asRules call) own slot) (bare-back (transactionId s) (id-fits s bytes) CreatePermission tt)
+    permission-readable = respond-back _ _ _ _ _ (permission-coded s (asRules call) own slot) (λ e. bare-back (transactionId s) (id-fits s bytes) CreatePermission tt)
 
-    channel-readable : (own : Bool) (slot : Slot) → Readable (outOf (channelBind (asRules call) s own slot))
+    channel-readable : Readable (responseFor call s before after ChannelBind) [] (outOf (channelBind (asRules call) s own slot))
     unfolding channelBind
-    channel-readable own slot =
-        respond-back _ _ _ _ (channel-coded s (asRules call) own slot _ _) (bare-back (transactionId s) (id-fits s bytes) ChannelBind tt)
+    channel-readable = respond-back _ _ _ _ _ (channel-coded s (asRules call) own slot) (λ e. bare-back (transactionId s) (id-fits s bytes) ChannelBind tt)
 
     -- ---- A client's data
-    send-readable : (own : Bool) (slot : Slot) → Readable (send (asRules call) s own slot)
+    send-readable : Readable nothing [] (send (asRules call) s own slot)
     unfolding send
-    send-readable own slot =
-        unless (anyUnknown s) _
-        (unless (not own) _
-        (unless (malformedPeer (firstPeer s)) _
-        (unless (ipv6Peer (firstPeer s)) _ (unless (not (permitted (call .time) (firstPeer s .peer) slot)) _ (go (firstOf attribute.«data» (attributes s)))))))
+    send-readable =
+        unless _ _ (anyUnknown s) _
+        (unless _ _ (not own) _
+        (unless _ _ (malformedPeer (firstPeer s)) _
+        (unless _ _ (ipv6Peer (firstPeer s)) _ (unless _ _ (not (permitted (call .time) (firstPeer s .peer) slot)) _ (go (firstOf attribute.«data» (attributes s)))))))
       where
-        go : (place : Place) → Readable (sentFrom (asRules call) s slot place)
+        go : (place : ValuePlace) → Readable nothing [] (sentFrom (asRules call) s slot place)
         go (Value start len) = tt
         go Absent = tt
 
-    channelled-readable : (own : Bool) (slot : Slot) → Readable (channelled (asRules call) s own slot)
-    unfolding channelled
-    channelled-readable own slot = go (channelDataOf s)
+    channelled-readable : Readable nothing [] (sendChannelData (asRules call) s own slot)
+    unfolding sendChannelData
+    channelled-readable = go (channelDataOf s)
       where
-        go : (message : ChannelMessage) → Readable (channelledFrom (asRules call) slot own message)
-        go (Data number start len) = unless (not own) _ (unless (not (has (find (numbered (call .time) number) (slot .channels)))) (toPeer _ _ start len) tt)
+        go : (message : ChannelMessage) → Readable nothing [] (channelledFrom (asRules call) slot own message)
+        go (Data number start len) =
+            unless _ _ (not own) _ (unless _ _ (not (has (find (numbered (call .time) number) (slot .channels)))) (toPeer _ _ start len) tt)
         go Malformed = tt
 
-    asked-readable : (l : List Slot) (asked : Asked) → Readable (outOf (onAsked call s l asked .change))
-    asked-readable l Asked.Allocate = allocate-readable l
-    asked-readable l Asked.Refresh = refresh-readable _ _
-    asked-readable l Asked.CreatePermission = permission-readable _ _
-    asked-readable l Asked.ChannelBind = channel-readable _ _
-    asked-readable l Asked.Send = send-readable _ _
-    asked-readable l Asked.ChannelData = channelled-readable _ _
-    asked-readable l Asked.Nothing = tt
+    asked-readable : (asked : Asked) → Left before after (onAsked call s before asked .place) (onAsked call s before asked .change)
+        → Readable (answerFor call s before after asked) [] (outOf (onAsked call s before asked .change))
+    asked-readable Asked.Allocate left = allocate-readable left
+    asked-readable Asked.Refresh left = refresh-readable left
+    asked-readable Asked.CreatePermission left = permission-readable
+    asked-readable Asked.ChannelBind left = channel-readable
+    asked-readable Asked.Send left = send-readable
+    asked-readable Asked.ChannelData left = channelled-readable
+    asked-readable Asked.Nothing left = tt
 
 -- ---- A peer's datagram
 ipv4-fits : (a : Address) → AddressFits a → ipv4Of a < 2 ^ 32
 ipv4-fits (V4 a) h = h
 ipv4-fits (V6 a b c d) h = lit< tt
 
-module _ (time : ℕ) (source : Transport) (id : TransactionId) (s : List ℕ) (fits : TransportFits source) (id-ok : IdFits id) (few : length s ≤ 1500) where
-  relayed-back : (slot : Slot) → ReadBack (relayed time source id s slot)
+module _ (call : FromPeer) (s : List ℕ) (fits : CallFits (Peer call)) (few : length s ≤ 1500) where
+  relayed-back : (slot : Slot) → ReadAs (plain (relayedFor call (length s) slot)) s (relayed (call .time) (call .source) (call .id) s slot)
   unfolding relayed atOr
-  relayed-back slot = go (find (leadsTo time source) (slot .channels)) refl
+  relayed-back slot = go (find (leadsTo (call .time) (call .source)) (slot .channels)) refl
     where
-      go : (f : Found) → find (leadsTo time source) (slot .channels) ≡ f
-          → ReadBack (pick (has f) (channelData (atOr freshChannel f (slot .channels) .number) s) (dataIndication id (ipv4Of (source .address)) (source .port) s))
+      number : Found → ℕ
+      number f = atOr freshChannel f (slot .channels) .number
+
+      peer : ℕ
+      peer = ipv4Of (call .source .address)
+
+      go : (f : Found) → find (leadsTo (call .time) (call .source)) (slot .channels) ≡ f
+          → ReadAs (plain (pick (has f) (Is.ChannelData (number f) 4 (length s)) (Is.DataIndication (call .id) peer (call .source .port) 36 (length s)))) s
+          (pick (has f) (channelData (number f) s) (dataIndication (call .id) peer (call .source .port) s))
       go (At i) e =
-          let live = leads-is time source _ (find-some (leadsTo time source) (slot .channels) freshChannel i e .0) .0 in
+          let live = leads-is (call .time) (call .source) _ (find-some (leadsTo (call .time) (call .source)) (slot .channels) freshChannel i e .0) .0 in
           channel-back _ s (live .1) (live .2) few
-      go Nothing e = indication-back id id-ok (ipv4Of (source .address)) (source .port) s (ipv4-fits (source .address) (fits .0)) (fits .1) few
+      go Nothing e = indication-back (call .id) (fits .1) peer (call .source .port) s (ipv4-fits (call .source .address) (fits .0 .0)) (fits .0 .1) few
 
-  peer-readable : (own : Bool) (slot : Slot) → Readable (fromPeer time source id s own slot)
-  unfolding fromPeer
+  peer-readable : (own : Bool) (slot : Slot) → Readable (plain (relayedFor call (length s) slot)) s (relayFromPeer (call .time) (call .source) (call .id) s own slot)
+  unfolding relayFromPeer
   peer-readable own slot =
-      unless (not own) _ (unless (isIpv6 (source .address)) _ (unless (not (permitted time source slot)) (toClient _ _) (relayed-back slot)))
+      unless _ _ (not own) _ (unless _ _ (isIpv6 (call .source .address)) _ (unless _ _ (not (permitted (call .time) (call .source) slot)) (toClient _ _) (relayed-back slot)))
 
--- ---- Acts
-abbrev ReadableAct : Act → Type 0
-ReadableAct (refuse number) = Unit
-ReadableAct (accept next out) = Readable out
+-- ---- Every call
 
-done-readable : (st : State) (found : Found) (change : Change) → Readable (outOf change) → ReadableAct (done st found change)
-done-readable st (At k) (keep out) r = r
-done-readable st (At k) (write slot out) r = r
-done-readable st Nothing change r = r
-
-decided-readable : (call : Call) (l : List Slot) (s reply : List ℕ) → CallFits call → Bytes s → Ready call s reply → Readable (outOf (decided call s l .change))
+decided-readable : (call : Call) (s reply : List ℕ) (before after : List Slot) → CallFits call → Bytes s → Ready call s reply
+    → Left before after (decided call s before .place) (decided call s before .change)
+    → Readable (fieldsFor call s before after) (dataFor call s) (outOf (decided call s before .change))
 unfolding decided
-decided-readable (Client call) l s reply fits bytes ready = asked-readable s bytes call fits l (askedBy s)
-decided-readable (Peer call) l s reply fits bytes ready = peer-readable (call .time) (call .source) (call .id) s (fits .0) (fits .1) (ready .short) _ _
+decided-readable (Client call) s reply before after fits bytes ready left = asked-readable s bytes call fits before after (askedBy s) left
+decided-readable (Peer call) s reply before after fits bytes ready left =
+    rw (left .kept _ refl) (peer-readable call s fits (ready .short) _ _)
 
-act-readable : (st : State) (a : Arrival) → ReadableAct (acts st a)
+-- the place that was found lies in the table
+asked-within : (call : FromClient) (s : List ℕ) (slots : List Slot) (asked : Asked) → Within (onAsked call s slots asked .place) (length slots)
+asked-within call s slots Asked.Allocate = found-within _ slots _ refl
+asked-within call s slots Asked.Refresh = found-within _ slots _ refl
+asked-within call s slots Asked.CreatePermission = found-within _ slots _ refl
+asked-within call s slots Asked.ChannelBind = found-within _ slots _ refl
+asked-within call s slots Asked.Send = found-within _ slots _ refl
+asked-within call s slots Asked.ChannelData = found-within _ slots _ refl
+asked-within call s slots Asked.Nothing = tt
+
+decided-within : (call : Call) (s : List ℕ) (slots : List Slot) → Within (decided call s slots .place) (length slots)
+unfolding decided
+decided-within (Client call) s slots = asked-within call s slots (askedBy s)
+decided-within (Peer call) s slots = found-within _ slots _ refl
+
+abbrev ReadableAct : Call → List ℕ → List Slot → Act → Type 0
+ReadableAct call s before (refuse number) = Unit
+ReadableAct call s before (accept next out) = Readable (fieldsFor call s before (next .slots)) (dataFor call s) out
+
+left-kept : (slots : List Slot) (place : Found) (out : Out) → Left slots slots place (keep out)
+left-kept slots place out = record { wrote = λ slot out e. kept-not-written e; kept = λ out e. refl }
+
+done-readable : (call : Call) (s : List ℕ) (st : State) (place : Found) (change : Change) → Within place (length (st .slots))
+    → ((slot : Slot) (out : Out) → change ≡ write slot out → has place ≡ true)
+    → ((after : List Slot) → Left (st .slots) after place change → Readable (fieldsFor call s (st .slots) after) (dataFor call s) (outOf change))
+    → ReadableAct call s (st .slots) (done st place change)
+unfolding atOr
+done-readable call s st (At k) (keep out) w h f = f (st .slots) (left-kept (st .slots) (At k) out)
+done-readable call s st (At k) (write slot out) w h f =
+    f (set (st .slots) k slot) (record {
+      wrote = λ other out e. getD-set-same (st .slots) k slot freshSlot w ∙ ap (slotAfter freshSlot) e;
+      kept = λ out e. kept-not-written (sym e);
+    })
+done-readable call s st Nothing (keep out) w h f = f (st .slots) (left-kept (st .slots) Nothing out)
+done-readable call s st Nothing (write slot out) w h f = absurd (false≢true (h slot out refl))
+
+act-readable : (st : State) (a : Arrival) → ReadableAct (a .call) (a .datagram) (st .slots) (acts st a)
 unfolding act accepted
 act-readable st a = go (eqb number 0) refl
   where
     number : ℕ
     number = refusal (clockOf st) (lengths (length (st .slots)) (length (a .datagram)) (length (a .reply))) (a .call)
 
-    go : (b : Bool) → eqb number 0 ≡ b → ReadableAct (pick b (accepted st (a .call) (a .datagram)) (refuse number))
+    go : (b : Bool) → eqb number 0 ≡ b → ReadableAct (a .call) (a .datagram) (st .slots) (pick b (accepted st (a .call) (a .datagram)) (refuse number))
     go true e =
-        done-readable (atTime (timeOf (a .call)) st) (decided (a .call) (a .datagram) (st .slots) .place) (decided (a .call) (a .datagram) (st .slots) .change)
-        (decided-readable (a .call) (st .slots) (a .datagram) (a .reply) (a .call-fits) (a .bytes)
-        (not-refused (clockOf st) (st .slots) (a .datagram) (a .reply) (a .call) (eqb-true number 0 e) .ready))
+        done-readable (a .call) (a .datagram) (atTime (timeOf (a .call)) st) _ _ (decided-within (a .call) (a .datagram) (st .slots))
+        (decided-writes (a .call) (a .datagram) (st .slots)) (λ after left.
+        decided-readable (a .call) (a .datagram) (a .reply) (st .slots) after (a .call-fits) (a .bytes)
+        (not-refused (clockOf st) (st .slots) (a .datagram) (a .reply) (a .call) (eqb-true number 0 e) .ready) left)
     go false e = tt
 
 -- ---- The theorem
 
 -- what the first n bytes of the reply hold, where the outcome is 'to the client, n bytes'
-sent-readable : (out : Out) (reply : List ℕ) (C : FiveTuple) (n : ℕ) → Readable out → rules.outcomeOf out ≡ ToClient C n → ReadBack (take n (rules.replyAfter reply out))
-sent-readable dropped reply C n r e = let z : _≡_ {A = ℕ} 0 1 = cc in let y : ⊥ = omega arith in absurd y
-sent-readable (toClient D message) reply C n r e =
+sent-readable : (fields : ReadMessage) (payload : List ℕ) (out : Out) (reply : List ℕ) (C : FiveTuple) (n : ℕ) → Readable fields payload out
+    → ToClient C n ≡ rules.outcomeOf out → ReadAs fields payload (take n (rules.replyAfter reply out))
+sent-readable fields payload dropped reply C n r e = let z : _≡_ {A = ℕ} 0 1 = cc in let y : ⊥ = omega arith in absurd y
+sent-readable fields payload (toClient D message) reply C n r e =
     let size : length message ≡ n = cc in
     rw (take-at message (drop (length message) reply) n size) r
-sent-readable (toPeer port peer start len) reply C n r e = let z : _≡_ {A = ℕ} 0 1 = cc in let y : ⊥ = omega arith in absurd y
+sent-readable fields payload (toPeer port peer start len) reply C n r e = let z : _≡_ {A = ℕ} 0 1 = cc in let y : ⊥ = omega arith in absurd y
 
--- every state, arrival and answer to a client: what is sent is read back
-pub read-back : (st : State) (a : Arrival) (C : FiveTuple) (n : ℕ) → outcome st a ≡ ToClient C n → ReadBack (take n (replied st a))
-read-back st a C n e = go (acts st a) (act-readable st a) e
+-- what is sent to a client is read back as the fields that went in
+pub read-back : ReadBack
+read-back before after a reply′ C n d = rw (d .state-is, d .reply-is) (go (acts before a) (act-readable before a) (d .outcome-is))
   where
-    go : (x : Act) → ReadableAct x → outcomeOf x ≡ ToClient C n → ReadBack (take n (replyAfter (a .reply) x))
+    go : (x : Act) → ReadableAct (a .call) (a .datagram) (before .slots) x → ToClient C n ≡ outcomeOf x
+        → ReadAs (fieldsFor (a .call) (a .datagram) (before .slots) (stateAfter before x .slots)) (dataFor (a .call) (a .datagram)) (take n (replyAfter (a .reply) x))
     go (refuse number) r e = let z : _≡_ {A = ℕ} 0 1 = cc in let y : ⊥ = omega arith in absurd y
-    go (accept next out) r e = sent-readable out (a .reply) C n r e
+    go (accept next out) r e = sent-readable _ _ out (a .reply) C n r e
+
+module _ {fields : ReadMessage} {payload message : List ℕ} (back : ReadAs fields payload message) where
+  -- no other fields make the message
+  pub only-fields : (m : ReadMessage) → IsMessage m → InRange m message → written m message ≡ message → m ≡ fields
+  only-fields m is h w = sym (back .exact .exactly m is .1 (h, w))
+
+  -- what `read_message` gives of it, by its promise
+  pub reader-gives : (r : ReadMessage) → Exact message r → r ≡ fields
+  reader-gives r x = one-reading message r fields x (back .exact)

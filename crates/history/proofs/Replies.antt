@@ -1,5 +1,5 @@
 -- What a reply counts as, read off its bytes by the clients' reader.
-use Prim.Native.Nat.{ℕ, _≤_, _<_, _^_, _/_}
+use Prim.Native.Nat.{ℕ, _+_, _≤_, _<_, _^_, _/_}
 use mathlib.Core.Path.{_≡_, refl, ap, _∙_}
 use mathlib.Core.Bool.{Bool, true, false, not}
 use mathlib.Core.List.{List, _∷_, [], _++_}
@@ -10,7 +10,7 @@ use lib.Seq.{take-at}
 use Rattle.wire.specs.Wire.{num, bytesOf}
 use Rattle.choice.specs.Choice.{pick, both}
 use Rattle.address.specs.declared.FiveTuple.{FiveTuple}
-use Rattle.address.specs.declared.Peer.{Peer as Transport}
+use Rattle.address.specs.declared.TransportAddress.{TransportAddress}
 use Rattle.address.specs.declared.TransactionId.{TransactionId}
 use Rattle.stun.specs.declared.kinds.Method.{Method}
 use Rattle.stun.specs.declared.kinds.Method.the-variants.{Allocate, Refresh, CreatePermission, ChannelBind}
@@ -19,17 +19,18 @@ use Rattle.stun.specs.Message.{unknownTypes}
 use Rattle.stun.specs.Values.{transactionId, peers, firstPeer}
 use Rattle.messages.specs.Messages.{messageBytes, errorCodeAttribute, unknownAttribute, errorResponse, unknownResponse, allocateSuccess, refreshSuccess, bareSuccess}
 use Rattle.rules.specs.declared.answer.Outcome.{Outcome}
-use Rattle.rules.specs.Act.{Out, dropped, toClient, toPeer, Change, keep, write, outcomeOf, replyAfter, errorMessage}
-use Rattle.relay.specs.declared.incoming.Call.the-variants.{Client}
-use Rattle.relay.specs.declared.incoming.FromClient.{FromClient}
+use Rattle.rules.specs.Change.{Out, dropped, toClient, toPeer, Change, keep, write, outcomeOf, replyAfter, errorMessage}
+use Rattle.interface.specs.declared.incoming.Call.the-variants.{Client}
+use Rattle.interface.specs.declared.incoming.FromClient.{FromClient}
 use Rattle.client_reader.specs.declared.ReadMessage.{ReadMessage}
-use Rattle.client_reader.specs.Fields.{Bytes, IdFits, AddressFits, written}
+use Rattle.client_reader.specs.Fields.{Bytes, IdFits, AddressFits, written, plain}
 use Rattle.client_reader.specs.declared.Message.the-variants.{Error}
-use Rattle.client_reader.specs.Reader.{plain, countFits, allBelow, typesOf, unknownOf, when, errorFields, unknownFields, plainErrorFields, codeOf, fieldsOf, sameBytes, checked, readOf}
+use Rattle.client_reader.specs.Inner.{countFits, allBelow, typesOf, unknownOf, when, errorFields, unknownFields, plainErrorFields, codeOf, fieldsOf, sameBytes, checked}
+use Rattle.client_reader.specs.Reader.{messageIn}
 use Rattle.client_reader.proofs.Laws.{read-allocate, read-refresh, read-bare}
 use Rattle.client_reader.proofs.Around.{num-lt}
 use Rattle.history.specs.Counted.{Counted, gave, kept, allowed, nothing}
-use Rattle.history.specs.Events.{addressesOf, countsAs, countsBy}
+use Rattle.history.specs.Events.{TransportFits, addressesOf, asks, countsAs, countsBy}
 
 -- ---- Errors count as nothing
 pub record Silent (r : ReadMessage) : Type 0 where
@@ -87,18 +88,18 @@ type-of Refresh id body = refl
 type-of CreatePermission id body = refl
 type-of ChannelBind id body = refl
 
-read-silent : (m : List ℕ) → Silent (fieldsOf m) → Silent (readOf m)
-unfolding readOf checked
+read-silent : (m : List ℕ) → Silent (fieldsOf m) → Silent (messageIn m)
+unfolding messageIn checked
 read-silent m h = when-silent (sameBytes (written (fieldsOf m) m) m) (fieldsOf m) h
 
-error-message-silent : (method : Method) (s : List ℕ) (code : ℕ) → Silent (readOf (errorMessage method s code))
+error-message-silent : (method : Method) (s : List ℕ) (code : ℕ) → Silent (messageIn (errorMessage method s code))
 unfolding errorMessage errorResponse unknownResponse
 error-message-silent method s code = go (eqb code 420)
   where
-    written-silent : (m : List ℕ) → num m 0 2 ≡ errorType method → Silent (readOf m)
+    written-silent : (m : List ℕ) → num m 0 2 ≡ errorType method → Silent (messageIn m)
     written-silent m e = read-silent m (type-silent method m e)
 
-    go : (b : Bool) → Silent (readOf (pick b (unknownResponse method (transactionId s) (unknownTypes s)) (errorResponse method (transactionId s) code)))
+    go : (b : Bool) → Silent (messageIn (pick b (unknownResponse method (transactionId s) (unknownTypes s)) (errorResponse method (transactionId s) code)))
     go true =
         let body = errorCodeAttribute 420 ++ unknownAttribute (unknownTypes s) in
         written-silent (unknownResponse method (transactionId s) (unknownTypes s)) (type-of method (transactionId s) body)
@@ -111,7 +112,7 @@ pub record Unaccepted (out : Out) : Type 0 where
 pub dropped-unaccepted : Unaccepted dropped
 dropped-unaccepted = record { counts = λ call s reply. refl }
 
-pub to-peer-unaccepted : (port : ℕ) (peer : Transport) (start len : ℕ) → Unaccepted (toPeer port peer start len)
+pub to-peer-unaccepted : (port : ℕ) (peer : TransportAddress) (start len : ℕ) → Unaccepted (toPeer port peer start len)
 to-peer-unaccepted port peer start len = record { counts = λ call s reply. refl }
 
 -- the first n bytes of the reply are the message
@@ -120,7 +121,7 @@ sent message reply = take-at message (drop (length message) reply) (length messa
 
 pub error-unaccepted : (fiveTuple : FiveTuple) (method : Method) (s : List ℕ) (code : ℕ) → Unaccepted (toClient fiveTuple (errorMessage method s code))
 error-unaccepted fiveTuple method s code = record {
-  counts = λ call s′ reply. ap (λ (m : List ℕ). countsAs call s′ (readOf m .message)) (sent (errorMessage method s code) reply) ∙ error-message-silent method s code .is call s′;
+  counts = λ call s′ reply. ap (λ (m : List ℕ). countsAs call s′ (messageIn m .message)) (sent (errorMessage method s code) reply) ∙ error-message-silent method s code .is call s′;
 }
 
 -- ---- What a success counts as
@@ -129,25 +130,33 @@ unfolding transactionId
 id-fits s h = (num-lt s h 8 4, num-lt s h 12 4, num-lt s h 16 4)
 
 module _ (call : FromClient) (s reply : List ℕ) (h : Bytes s) where
-  counts-sent : (message : List ℕ) {r : ReadMessage} → readOf message ≡ r
+  counts-sent : (message : List ℕ) {r : ReadMessage} → messageIn message ≡ r
       → countsBy (Client call) s (outcomeOf (toClient (call .«five_tuple») message)) (replyAfter reply (toClient (call .«five_tuple») message)) ≡ countsAs call s (r .message)
   counts-sent message {r} e =
-      ap (λ (m : List ℕ). countsAs call s (readOf m .message)) (sent message reply) ∙ ap (λ (x : ReadMessage). countsAs call s (x .message)) e
+      ap (λ (m : List ℕ). countsAs call s (messageIn m .message)) (sent message reply) ∙ ap (λ (x : ReadMessage). countsAs call s (x .message)) e
 
   abbrev Counts : List ℕ → Counted
   Counts message = countsBy (Client call) s (outcomeOf (toClient (call .«five_tuple») message)) (replyAfter reply (toClient (call .«five_tuple») message))
 
-  pub allocate-counts : (port seconds : ℕ) → call .relay < 2 ^ 32 → port < 2 ^ 16 → seconds < 2 ^ 32 → AddressFits (call .«five_tuple» .client .address)
-      → call .«five_tuple» .client .port < 2 ^ 16
+  -- where the datagram is a request of the method
+  counts-asked : (message : List ℕ) {r : ReadMessage} (method : Method) (c : Counted) → messageIn message ≡ r
+      → countsAs call s (r .message) ≡ pick (asks method s) c nothing → asks method s ≡ true → Counts message ≡ c
+  counts-asked message method c e is asked = counts-sent message e ∙ is ∙ ap (λ (b : Bool). pick b c nothing) asked
+
+  pub allocate-counts : (port seconds : ℕ) → call .relay < 2 ^ 32 → port < 2 ^ 16 → seconds < 2 ^ 32 → TransportFits (call .«five_tuple» .client)
+      → asks Allocate s ≡ true
       → Counts (allocateSuccess (transactionId s) (call .relay) port seconds (call .«five_tuple» .client)) ≡ gave (call .«five_tuple») port (call .time) seconds
-  allocate-counts port seconds hr hp hs ha hq =
-      counts-sent _ (read-allocate (transactionId s) (id-fits s h) (call .relay) port seconds (call .«five_tuple» .client) hr hp hs ha hq)
+  allocate-counts port seconds hr hp hs hc =
+      counts-asked _ Allocate _ (read-allocate (transactionId s) (id-fits s h) (call .relay) port seconds (call .«five_tuple» .client) hr hp hs (hc .0) (hc .1)) refl
 
-  pub refresh-counts : (seconds : ℕ) → seconds < 2 ^ 32 → Counts (refreshSuccess (transactionId s) seconds) ≡ kept (call .«five_tuple») (call .time) seconds
-  refresh-counts seconds hs = counts-sent _ (read-refresh (transactionId s) (id-fits s h) seconds hs)
+  pub refresh-counts : (seconds : ℕ) → seconds < 2 ^ 32 → asks Refresh s ≡ true
+      → Counts (refreshSuccess (transactionId s) seconds) ≡ kept (call .«five_tuple») (call .time) seconds
+  refresh-counts seconds hs = counts-asked _ Refresh _ (read-refresh (transactionId s) (id-fits s h) seconds hs) refl
 
-  pub permission-counts : Counts (bareSuccess CreatePermission (transactionId s)) ≡ allowed (call .«five_tuple») (addressesOf (peers s)) (call .time)
-  permission-counts = counts-sent _ (read-bare (transactionId s) (id-fits s h) CreatePermission tt)
+  pub permission-counts : asks CreatePermission s ≡ true
+      → Counts (bareSuccess CreatePermission (transactionId s)) ≡ allowed (call .«five_tuple») (addressesOf (peers s)) (call .time + 300)
+  permission-counts = counts-asked _ CreatePermission _ (read-bare (transactionId s) (id-fits s h) CreatePermission tt) refl
 
-  pub channel-counts : Counts (bareSuccess ChannelBind (transactionId s)) ≡ allowed (call .«five_tuple») (firstPeer s .peer .address ∷ []) (call .time)
-  channel-counts = counts-sent _ (read-bare (transactionId s) (id-fits s h) ChannelBind tt)
+  pub channel-counts : asks ChannelBind s ≡ true
+      → Counts (bareSuccess ChannelBind (transactionId s)) ≡ allowed (call .«five_tuple») (firstPeer s .peer .address ∷ []) (call .time + 300)
+  channel-counts = counts-asked _ ChannelBind _ (read-bare (transactionId s) (id-fits s h) ChannelBind tt) refl

@@ -1,14 +1,16 @@
--- A table seen as a function from slot numbers to slots; what a call may do to it (Change); what ties it to the history (Inv).
-use mathlib.Core.Path.{_≡_, refl, sym, _∙_}
+-- A table seen as a function from slot numbers to slots; what a call may do to it (Change); that what was counted accounts for it (Accounts).
+use mathlib.Core.Path.{_≡_}
 use mathlib.Core.Logic.{_≢_, _⊎_}
 use mathlib.Core.List.{List, List·Memᴰ}
 use Prim.Native.Nat.{ℕ, _+_, _<_, _≤_}
 use native.Mathlib.Omega.{arith}
 use Rattle.address.specs.declared.Address.{Address}
 use Rattle.address.specs.declared.FiveTuple.{FiveTuple}
-use Rattle.table.specs.declared.Permission.{Permission}
-use Rattle.table.specs.declared.Channel.{Channel}
-use Rattle.table.specs.declared.Slot.{Slot}
+use Rattle.slot.specs.declared.Permission.{Permission}
+use Rattle.slot.specs.declared.Channel.{Channel}
+use Rattle.slot.specs.declared.Slot.{Slot}
+use Rattle.table.specs.Table.{slotAt}
+use Rattle.relay.specs.State.{State, clockOf}
 use Rattle.history.specs.Counted.{Counted, gave, kept, allowed, nothing}
 use Rattle.history.specs.Statement.{permissionAt, channelAt, Live, LiveChannel}
 use Rattle.history.proofs.Readings.{Given, Granted, Allowed, given-port, given-holder}
@@ -98,15 +100,15 @@ pub record Admit (now : ℕ) (v w : View) (C : FiveTuple) (xs : List Address) : 
   pub perms→ : (a : Address) (t : ℕ) → now ≤ t → HasPermission t a (w k .permissions) → (List·Memᴰ a xs × (t < now + 300)) ⊎ HasPermission t a (v k .permissions)
   pub perms← : Tidy now (v k) → (a : Address) (t : ℕ) → now ≤ t → (List·Memᴰ a xs × (t < now + 300)) ⊎ HasPermission t a (v k .permissions) → HasPermission t a (w k .permissions)
 
--- what a call that counts as this deed does to the table, at its time
+-- what a call that counts as this does to the table, at its time
 abbrev pub Change : ℕ → View → View → Counted → Type 0
 Change now v w nothing = Quiet now v w
 Change now v w (gave C R s n) = (s ≡ now) × Allot now v w C R n
 Change now v w (kept C s n) = (s ≡ now) × (Renew now v w C n ⊎ End now v w C n)
-Change now v w (allowed C xs s) = (s ≡ now) × Admit now v w C xs
+Change now v w (allowed C xs ends) = (ends ≡ now + 300) × Admit now v w C xs
 
--- ---- the tie between the table and the history
-pub record Inv (clock : ℕ) (v : View) (h : List Counted) : Type 0 where
+-- ---- What was counted accounts for the table: whatever the table says at the clock or later, the history says
+pub record Accounts (clock : ℕ) (v : View) (h : List Counted) : Type 0 where
   pub own : (i j : ℕ) → Live clock (v i) → Live clock (v j) → v i .allocation .«five_tuple» ≡ v j .allocation .«five_tuple» → i ≡ j
   pub neat : (i : ℕ) → Live clock (v i) → Tidy clock (v i)
   pub given : (i : ℕ) → Live clock (v i) → Given h (v i .allocation .«five_tuple») (v i .allocation .port)
@@ -115,13 +117,17 @@ pub record Inv (clock : ℕ) (v : View) (h : List Counted) : Type 0 where
   pub allowed→ : (i : ℕ) → Live clock (v i) → (a : Address) (t : ℕ) → clock ≤ t → HasPermission t a (v i .permissions) → Allowed h (v i .allocation .«five_tuple») a t
   pub allowed← : (i : ℕ) → Live clock (v i) → (a : Address) (t : ℕ) → clock ≤ t → Allowed h (v i .allocation .«five_tuple») a t → HasPermission t a (v i .permissions)
 
+-- of the relay's state
+abbrev pub AccountsFor : List Counted → State → Type 0
+AccountsFor past st = Accounts (clockOf st) (slotAt (st .slots)) past
+
 -- two live allocations never share a port
-pub own-port : (clock : ℕ) (v : View) (h : List Counted) → Inv clock v h → (i j : ℕ) → Live clock (v i) → Live clock (v j) → v i .allocation .port ≡ v j .allocation .port → i ≡ j
+pub own-port : (clock : ℕ) (v : View) (h : List Counted) → Accounts clock v h → (i j : ℕ) → Live clock (v i) → Live clock (v j) → v i .allocation .port ≡ v j .allocation .port → i ≡ j
 own-port clock v h I i j x y e = I .own i j x y (given-holder h _ _ _ (I .given i x) (rw e (I .given j y)))
 
 -- time passes
-pub inv-later : (clock now : ℕ) (v : View) (h : List Counted) → clock ≤ now → Inv clock v h → Inv now v h
-inv-later clock now v h le I = record {
+pub accounts-later : (clock now : ℕ) (v : View) (h : List Counted) → clock ≤ now → Accounts clock v h → Accounts now v h
+accounts-later clock now v h le I = record {
   own = λ i j x y. I .own i j (omega arith) (omega arith);
   neat = λ i x. neat-later clock now _ _ le (I .neat i (omega arith));
   given = λ i x. I .given i (omega arith);
@@ -139,12 +145,12 @@ pub record Reach (v : View) (C : FiveTuple) (R : ℕ) (a : Address) (t : ℕ) : 
   pub port : v i .allocation .port ≡ R
   pub perm : HasPermission t a (v i .permissions)
 
-pub reach→ : (clock : ℕ) (v : View) (h : List Counted) → Inv clock v h → (C : FiveTuple) (R : ℕ) (a : Address) (t : ℕ) → clock ≤ t → Reach v C R a t → Given h C R × Granted h C t × Allowed h C a t
+pub reach→ : (clock : ℕ) (v : View) (h : List Counted) → Accounts clock v h → (C : FiveTuple) (R : ℕ) (a : Address) (t : ℕ) → clock ≤ t → Reach v C R a t → Given h C R × Granted h C t × Allowed h C a t
 reach→ clock v h I C R a t le r =
     let l : Live clock (v (r .i)) = omega arith in
     rw (← r .who, ← r .port) (I .given (r .i) l, I .granted→ (r .i) l t le (r .live), I .allowed→ (r .i) l a t le (r .perm))
 
-pub reach← : (clock : ℕ) (v : View) (h : List Counted) → Inv clock v h → (C : FiveTuple) (R : ℕ) (a : Address) (t : ℕ) → clock ≤ t → Given h C R → Granted h C t → Allowed h C a t → Reach v C R a t
+pub reach← : (clock : ℕ) (v : View) (h : List Counted) → Accounts clock v h → (C : FiveTuple) (R : ℕ) (a : Address) (t : ℕ) → clock ≤ t → Given h C R → Granted h C t → Allowed h C a t → Reach v C R a t
 reach← clock v h I C R a t le g l p =
     let s = I .granted← C t le l in
     let i : ℕ = s .0 in

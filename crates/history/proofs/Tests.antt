@@ -5,24 +5,24 @@ use mathlib.Core.Logic.{_≢_, _⊎_, inl, inr}
 use mathlib.Core.Bool.{Bool, true, false, not, true≢false, false≢true}
 use mathlib.Core.List.{List, [], _∷_}
 use native.Mathlib.Omega.{arith}
-use lib.Dec.{eqb, ltb, leb}
+use lib.Dec.{ltb}
 use lib.ListN.{length, getD}
-use borrow.Author.Tests.{ltb-true, ltb-false, leb-true, eqb-true, eqb-false, le-ltb, lt-ltb, eq-eqb, le-leb, not-true, not-false}
+use borrow.Author.Tests.{ltb-true, ltb-false, leb-true, eqb-true, eqb-false, le-ltb, lt-ltb, le-leb, not-true}
 use Rattle.choice.specs.Choice.{pick, both}
 use Rattle.choice.proofs.Laws.{both-parts, both-true}
 use Rattle.address.specs.declared.Address.{Address}
 use Rattle.address.specs.declared.FiveTuple.{FiveTuple}
-use Rattle.address.specs.declared.Peer.{Peer}
-use Rattle.address.specs.Address.{sameAddress, samePeer, sameFiveTuple}
-use Rattle.address.proofs.Laws.{address-same, address-refl, peer-same, peer-refl, five-tuple-same, five-tuple-refl}
-use Rattle.table.specs.declared.Permission.{Permission}
-use Rattle.table.specs.declared.Channel.{Channel}
-use Rattle.table.specs.declared.Slot.{Slot}
-use Rattle.table.specs.declared.Found.{Found}
-use Rattle.table.specs.declared.Found.the-variants.{At, Nothing}
-use Rattle.table.specs.Search.{further, find, has, orElse, entry}
-use Rattle.table.specs.Table.{liveAllocation, freshAllocation, freshPermission, freshChannel, freshSlot, livePermission, freePermission, permits, isChannelNumber, liveChannel, freeChannel, numbered, leadsTo, holds, holdsPort}
-use Rattle.slots.specs.Slots.{slotAt, inSlot, lapsed}
+use Rattle.address.specs.declared.TransportAddress.{TransportAddress}
+use Rattle.address.specs.Address.{sameAddress, sameTransportAddress, sameFiveTuple}
+use Rattle.address.proofs.Laws.{address-same, address-refl, transport-address-same, transport-address-refl, five-tuple-same, five-tuple-refl}
+use Rattle.slot.specs.declared.Permission.{Permission}
+use Rattle.slot.specs.declared.Channel.{Channel}
+use Rattle.slot.specs.declared.Slot.{Slot}
+use Rattle.slot.specs.declared.Found.{Found}
+use Rattle.slot.specs.declared.Found.the-variants.{At, Nothing}
+use Rattle.slot.specs.Search.{further, find, has, orElse, entry}
+use Rattle.slot.specs.Slot.{liveAllocation, freshPermission, freshChannel, freshSlot, livePermission, freePermission, permits, isChannelNumber, liveChannel, numbered, leadsTo, holds, holdsPort}
+use Rattle.table.specs.Table.{slotAt, inSlot, lapsed}
 use Rattle.history.specs.Statement.{permissionAt, channelAt, Live, LiveChannel}
 use Rattle.history.proofs.Table.{HasPermission}
 
@@ -146,9 +146,9 @@ module _ (t : ℕ) where
   unfolding numbered
   numbered-is n c e = let r = both-parts _ _ e in (channel-is c (r .0), eqb-true _ _ (r .1))
 
-  pub leads-is : (p : Peer) (c : Channel) → leadsTo t p c ≡ true → LiveChannel t c × (c .peer ≡ p)
+  pub leads-is : (p : TransportAddress) (c : Channel) → leadsTo t p c ≡ true → LiveChannel t c × (c .peer ≡ p)
   unfolding leadsTo
-  leads-is p c e = let r = both-parts _ _ e in (channel-is c (r .0), peer-same _ _ (r .1))
+  leads-is p c e = let r = both-parts _ _ e in (channel-is c (r .0), transport-address-same _ _ (r .1))
 
   fresh-channel : liveChannel t freshChannel ≡ false
   unfolding liveChannel
@@ -158,8 +158,8 @@ module _ (t : ℕ) where
   unfolding numbered both
   none-numbered n l e i x = eqb-false _ _ (both-not _ _ (find-none (numbered t n) l freshChannel (rw fresh-channel) e i) (channel-of _ x))
 
-  pub none-leads : (p : Peer) (l : List Channel) → find (leadsTo t p) l ≡ Nothing → (i : ℕ) → LiveChannel t (channelAt l i) → channelAt l i .peer ≢ p
+  pub none-leads : (p : TransportAddress) (l : List Channel) → find (leadsTo t p) l ≡ Nothing → (i : ℕ) → LiveChannel t (channelAt l i) → channelAt l i .peer ≢ p
   unfolding leadsTo both
   none-leads p l e i x q =
-      clash (samePeer (channelAt l i .peer) p) (rw (← q) (peer-refl (channelAt l i .peer)))
+      clash (sameTransportAddress (channelAt l i .peer) p) (rw (← q) (transport-address-refl (channelAt l i .peer)))
       (both-not _ _ (find-none (leadsTo t p) l freshChannel (rw fresh-channel) e i) (channel-of _ x))

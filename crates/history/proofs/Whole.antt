@@ -1,53 +1,56 @@
--- The tie between the table and the history, for every list of calls, the newest first; and whom a peer's datagram reaches.
-use Prim.Native.Nat.{ℕ, zero, suc, _+_, _<_, _≤_, _^_}
-use mathlib.Core.Path.{_≡_, refl, sym, _∙_, ap, subst}
-use mathlib.Core.Logic.{_≢_, _⊎_, inl, inr, _↔_}
-use mathlib.Core.Bool.{Bool, true, false, not, false≢true}
+-- The history accounts for the relay's state after every list of calls; and whom a peer's datagram reaches.
+use Prim.Native.Nat.{ℕ, zero, suc, _≤_}
+use mathlib.Core.Path.{_≡_, refl, sym, _∙_, ap}
+use mathlib.Core.Logic.{_≢_, _↔_}
+use mathlib.Core.Bool.{Bool, true, false, not}
 use mathlib.Core.List.{List, [], _∷_}
 use native.Mathlib.Omega.{arith}
 use native.Mathlib.Nat.{le-refl, not-suc-le-zero}
-use lib.Dec.{eqb, ltb}
+use lib.Dec.{eqb}
 use lib.ListN.{length, replicate}
-use borrow.Author.Tests.{ltb-false, eqb-true, not-true, not-false}
+use borrow.Author.Tests.{eqb-true}
 use Rattle.choice.specs.Choice.{pick}
 use Rattle.address.specs.declared.Address.{Address}
-use Rattle.address.specs.declared.Address.the-variants.{V4}
+use Rattle.address.specs.declared.Address.the-variants.{V4, V6}
 use Rattle.address.specs.declared.FiveTuple.{FiveTuple}
+use Rattle.address.specs.declared.TransportAddress.{TransportAddress}
 use Rattle.address.specs.declared.TransactionId.{TransactionId}
-use Rattle.table.specs.declared.Slot.{Slot}
-use Rattle.table.specs.declared.Found.{Found}
-use Rattle.table.specs.declared.Found.the-variants.{At, Nothing}
-use Rattle.table.specs.Search.{find, has, atOr}
-use Rattle.table.specs.Table.{freshSlot, permits, holdsPort}
-use Rattle.slots.specs.Slots.{slotAt, inSlot}
+use Rattle.slot.specs.declared.Slot.{Slot}
+use Rattle.slot.specs.declared.Found.{Found}
+use Rattle.slot.specs.declared.Found.the-variants.{At, Nothing}
+use Rattle.slot.specs.Search.{find, has, atOr}
+use Rattle.slot.specs.Slot.{freshSlot, permits, holdsPort}
+use Rattle.table.specs.Table.{slotAt, inSlot}
 use Rattle.rules.specs.declared.answer.Outcome.{Outcome}
 use Rattle.rules.specs.declared.answer.Outcome.the-variants.{Refused, Dropped, ToClient}
-use Rattle.rules.specs.Act as rules
-use Rattle.rules.specs.Act.{Out, dropped, toClient, Change, keep, write}
-use Rattle.rules.specs.declared.client.Asked.{Asked}
-use Rattle.rules.specs.Data.{permitted, relayed, fromPeer}
-use Rattle.rules.specs.Client.{askedBy}
-use Rattle.relay.specs.declared.incoming.Call.{Call}
-use Rattle.relay.specs.declared.incoming.Call.the-variants.{Client, Peer}
-use Rattle.relay.specs.declared.incoming.FromPeer.{FromPeer}
+use Rattle.rules.specs.Change as rules
+use Rattle.rules.specs.Change.{Out, dropped, toClient, Change, keep, write}
+use Rattle.decisions.specs.declared.client.Asked.{Asked}
+use Rattle.rules.specs.Values.{isIpv6}
+use Rattle.data_rules.specs.Data.{permitted, relayed, relayFromPeer}
+use Rattle.decisions.specs.Client.{askedBy}
+use Rattle.interface.specs.declared.incoming.Call.{Call}
+use Rattle.interface.specs.declared.incoming.Call.the-variants.{Client, Peer}
+use Rattle.interface.specs.declared.incoming.FromPeer.{FromPeer}
 use Rattle.relay.specs.State.{State, empty, clockOf, atTime}
 use Rattle.relay.specs.Outcomes.{Act, refuse, accept, outcomeOf, replyAfter, stateAfter}
-use Rattle.relay.specs.Refusals.{timeOf, lengths, refusal}
-use Rattle.relay.specs.Step.{onAsked, decided, done, accepted, act}
+use Rattle.interface.specs.Refusals.{timeOf, lengths, refusal}
+use Rattle.decisions.specs.Decisions.{onAsked, decided}
+use Rattle.relay.specs.Step.{done, accepted, act}
 use Rattle.relay.proofs.Laws.{not-refused}
 use Rattle.history.specs.Counted.{Counted, nothing}
 use Rattle.client_reader.specs.Fields.{Bytes}
-use Rattle.history.specs.Events.{CallFits, Arrival, outcome, replied, next, countsBy}
-use Rattle.history.specs.Statement.{Live, Apart, FromIpv4}
-use Rattle.history.proofs.Readings.{given-holder, Delivers, delivers→, delivers←}
+use Rattle.history.specs.Events.{CallFits, Arrival, acts, outcome, replied, next, Event, Happened, Lived, countsBy, counts, counted}
+use Rattle.history.specs.Statement.{Live, Apart, GoesTo, FromAddress}
+use Rattle.history.proofs.Readings.{given-holder, goes→, goes←}
 use Rattle.history.proofs.Table as table
-use Rattle.history.proofs.Table.{HasPermission, Inv, own-port, inv-later, Reach, reach→, reach←}
-use Rattle.history.proofs.Keep.{keep as keep-inv}
+use Rattle.history.proofs.Table.{Accounts, AccountsFor, own-port, accounts-later, Reach, reach→, reach←}
+use Rattle.history.proofs.Keep.{keep as keep-accounts}
 use Rattle.history.proofs.Tests.{find-some, port-is, none-port, has-permission→, has-permission←}
 use Rattle.history.proofs.Made.{quiet, made-asked}
 
 -- ---- The empty relay
-fresh-slots : (n i : ℕ) → slotAt (replicate n freshSlot) i ≡ freshSlot
+pub fresh-slots : (n i : ℕ) → slotAt (replicate n freshSlot) i ≡ freshSlot
 fresh-slots zero i = refl
 fresh-slots (suc n) zero = refl
 fresh-slots (suc n) (suc i) = fresh-slots n i
@@ -56,8 +59,8 @@ none-live : (i : ℕ) → Live 0 (slotAt (empty .slots) i) → ⊥
 unfolding freshSlot
 none-live i x = not-suc-le-zero (rw (fresh-slots 64 i) at x)
 
-inv-empty : Inv 0 (slotAt (empty .slots)) []
-inv-empty = record {
+pub accounts-empty : AccountsFor [] empty
+accounts-empty = record {
   own = λ i j x. absurd (none-live i x);
   neat = λ i x. absurd (none-live i x);
   given = λ i x. absurd (none-live i x);
@@ -68,7 +71,7 @@ inv-empty = record {
 }
 
 -- ---- One call
-refused-counts : (call : Call) (s : List ℕ) (number : ℕ) (reply : List ℕ) → countsBy call s (Refused number) reply ≡ nothing
+pub refused-counts : (call : Call) (s : List ℕ) (number : ℕ) (reply : List ℕ) → countsBy call s (Refused number) reply ≡ nothing
 refused-counts (Client call) s number reply = refl
 refused-counts (Peer call) s number reply = refl
 
@@ -90,7 +93,7 @@ done-keep st Nothing out = refl
 peer-out : FromPeer → List Slot → List ℕ → Out
 peer-out call l s =
     let found = find (inSlot (holdsPort (call .time) (call .port))) l in
-    fromPeer (call .time) (call .source) (call .id) s (has found) (atOr freshSlot found l)
+    relayFromPeer (call .time) (call .source) (call .id) s (has found) (atOr freshSlot found l)
 
 peer-stays : (call : FromPeer) (st : State) (s : List ℕ) → accepted st (Peer call) s ≡ accept (atTime (call .time) st) (peer-out call (st .slots) s)
 unfolding accepted decided peer-out
@@ -101,7 +104,7 @@ made : (call : Call) (st : State) (s reply : List ℕ) → length (st .slots) �
     → table.Change (timeOf call) (slotAt (st .slots)) (slotAt (stateAfter st (accepted st call s) .slots))
     (countsBy call s (outcomeOf (accepted st call s)) (replyAfter reply (accepted st call s)))
 unfolding accepted decided
-made (Client call) st s reply full fits bytes = go (askedBy s)
+made (Client call) st s reply full fits bytes = go (askedBy s) refl
   where
     -- an act that is not a refusal says itself what state it leaves
     same : (found : Found) (change : Change)
@@ -113,66 +116,64 @@ made (Client call) st s reply full fits bytes = go (askedBy s)
     same (At k) (write slot out) c = c
     same Nothing change c = c
 
-    go : (asked : Asked) → table.Change (call .time) (slotAt (st .slots))
+    go : (asked : Asked) → askedBy s ≡ asked → table.Change (call .time) (slotAt (st .slots))
         (slotAt (stateAfter st (done (atTime (call .time) st) (onAsked call s (st .slots) asked .place) (onAsked call s (st .slots) asked .change)) .slots))
         (countsBy (Client call) s (outcomeOf (done (atTime (call .time) st) (onAsked call s (st .slots) asked .place) (onAsked call s (st .slots) asked .change)))
         (replyAfter reply (done (atTime (call .time) st) (onAsked call s (st .slots) asked .place) (onAsked call s (st .slots) asked .change))))
-    go asked = same (onAsked call s (st .slots) asked .place) (onAsked call s (st .slots) asked .change) (made-asked call (atTime (call .time) st) s reply full fits bytes asked)
+    go asked is = same (onAsked call s (st .slots) asked .place) (onAsked call s (st .slots) asked .change) (made-asked call (atTime (call .time) st) s reply full fits bytes asked is)
 made (Peer call) st s reply full fits bytes = rw (peer-stays call st s) (quiet (call .time) (slotAt (st .slots)))
 
--- what a call counts as
-abbrev pub countOf : State → Arrival → Counted
-countOf st a = countsBy (a .call) (a .datagram) (outcome st a) (replied st a)
+-- what a call does to the table: nothing, where it is refused; else a change at its time, which what it counts as allows
+pub data Moved (st : State) (a : Arrival) (x : Act) : Type 0 where
+  refused : (number : ℕ) → x ≡ refuse number → Moved st a x
+  changed : clockOf st ≤ timeOf (a .call) → clockOf (stateAfter st x) ≡ timeOf (a .call)
+      → table.Change (timeOf (a .call)) (slotAt (st .slots)) (slotAt (stateAfter st x .slots)) (countsBy (a .call) (a .datagram) (outcomeOf x) (replyAfter (a .reply) x))
+      → Moved st a x
 
-module _ (st : State) (a : Arrival) (h : List Counted) (I : Inv (clockOf st) (slotAt (st .slots)) h) where
-  -- the tie after an act
-  abbrev After : Act → Type 0
-  After x =
-      Inv (clockOf (stateAfter st x)) (slotAt (stateAfter st x .slots)) (countsBy (a .call) (a .datagram) (outcomeOf x) (replyAfter (a .reply) x) ∷ h)
+pub moves : (st : State) (a : Arrival) → Moved st a (acts st a)
+unfolding act
+moves st a = go (eqb number 0) refl
+  where
+    number : ℕ
+    number = refusal (clockOf st) (lengths (length (st .slots)) (length (a .datagram)) (length (a .reply))) (a .call)
 
-  inv-refused : (number : ℕ) → After (refuse number)
-  inv-refused number = rw (refused-counts (a .call) (a .datagram) number (a .reply)) (keep-inv _ _ _ _ h nothing (le-refl _) I (quiet _ _))
+    go : (b : Bool) → eqb number 0 ≡ b → Moved st a (pick b (accepted st (a .call) (a .datagram)) (refuse number))
+    go true e =
+        let w = not-refused (clockOf st) (st .slots) (a .datagram) (a .reply) (a .call) (eqb-true number 0 e) in
+        changed (w .not-before) (clock-accepted st (a .call) (a .datagram))
+        (made (a .call) st (a .datagram) (a .reply) (w .sixty-four) (a .call-fits) (a .bytes))
+    go false e = refused number refl
 
-  inv-accepted : refusal (clockOf st) (lengths (length (st .slots)) (length (a .datagram)) (length (a .reply))) (a .call) ≡ 0 → After (accepted st (a .call) (a .datagram))
-  inv-accepted e =
-      let w = not-refused (clockOf st) (st .slots) (a .datagram) (a .reply) (a .call) e in
-      rw (clock-accepted st (a .call) (a .datagram))
-      (keep-inv _ (timeOf (a .call)) _ _ h _ (w .not-before) I (made (a .call) st (a .datagram) (a .reply) (w .sixty-four) (a .call-fits) (a .bytes)))
+-- so what was counted accounts for the state after it
+after-call : (st : State) (a : Arrival) (past : List Counted) → AccountsFor past st
+    → AccountsFor (countsBy (a .call) (a .datagram) (outcome st a) (replied st a) ∷ past) (next st a)
+after-call st a past I = go (acts st a) (moves st a)
+  where
+    go : (x : Act) → Moved st a x → AccountsFor (countsBy (a .call) (a .datagram) (outcomeOf x) (replyAfter (a .reply) x) ∷ past) (stateAfter st x)
+    go x (refused number e) =
+        rw (e, refused-counts (a .call) (a .datagram) number (a .reply)) (keep-accounts _ _ _ _ past nothing (le-refl _) I (quiet _ _))
+    go x (changed le clock c) = rw clock (keep-accounts _ (timeOf (a .call)) _ _ past _ le I c)
 
-  inv-call : Inv (clockOf (next st a)) (slotAt (next st a .slots)) (countOf st a ∷ h)
-  unfolding act
-  inv-call = go (eqb number 0) refl
-    where
-      number : ℕ
-      number = refusal (clockOf st) (lengths (length (st .slots)) (length (a .datagram)) (length (a .reply))) (a .call)
+-- ---- Every list of calls
+pub happened-accounts : (before : State) (e : Event) (after : State) (past : List Counted) → Happened before e after → AccountsFor past before
+    → AccountsFor (counts past e ∷ past) after
+happened-accounts before e after past h I = rw (h .state-is, h .outcome-is, h .reply-is) (after-call before (e .arrival) past I)
 
-      go : (b : Bool) → eqb number 0 ≡ b → After (pick b (accepted st (a .call) (a .datagram)) (refuse number))
-      go true e = inv-accepted (eqb-true number 0 e)
-      go false e = inv-refused number
+pub lived-accounts : (list : List Event) (first last : State) (past : List Counted) → Lived first list last → AccountsFor past first
+    → AccountsFor (counted past list) last
+lived-accounts [] first last past l I = rw (← l) I
+lived-accounts (e ∷ rest) first last past l I =
+    lived-accounts rest (l .0) last (counts past e ∷ past) (l .2) (happened-accounts first e (l .0) past (l .1) I)
 
--- ---- Every list of calls, the newest first
-unfoldable pub after : List Arrival → State
-after [] = empty
-after (a ∷ past) = next (after past) a
-
-unfoldable pub history : List Arrival → List Counted
-history [] = []
-history (a ∷ past) = countOf (after past) a ∷ history past
-
-tie : (past : List Arrival) → Inv (clockOf (after past)) (slotAt (after past .slots)) (history past)
-unfolding after history
-tie [] = inv-empty
-tie (a ∷ past) = inv-call (after past) a (history past) (tie past)
-
-pub apart : (past : List Arrival) (t : ℕ) → clockOf (after past) ≤ t → Apart (after past .slots) t
-apart past t le =
-    let I : Inv t (slotAt (after past .slots)) (history past) = inv-later _ t _ _ le (tie past) in
+pub apart : (st : State) (past : List Counted) → AccountsFor past st → (t : ℕ) → clockOf st ≤ t → Apart (st .slots) t
+apart st past I t le =
+    let now : Accounts t (slotAt (st .slots)) past = accounts-later _ t _ _ le I in
     record {
-      five-tuples = I .own;
-      ports = own-port t _ _ I;
-      permissions = λ k x. I .neat k x .perms .one-perm;
-      numbers = λ k x. I .neat k x .chans .one-num;
-      peers = λ k x. I .neat k x .chans .one-peer;
+      five-tuples = now .own;
+      ports = own-port t _ _ now;
+      permissions = λ k x. now .neat k x .perms .one-perm;
+      numbers = λ k x. now .neat k x .chans .one-num;
+      peers = λ k x. now .neat k x .chans .one-peer;
     }
 
 -- ---- Whom a peer's datagram reaches
@@ -188,7 +189,7 @@ module _ (l : List Slot) (t x p R : ℕ) (id : TransactionId) (s : List ℕ)
   call = record { time = t; source = record { address = V4 x; port = p }; port = R; id = id }
 
   arrives : Verdict l t R (V4 x) (rules.outcomeOf (peer-out call l s))
-  unfolding peer-out fromPeer permitted atOr
+  unfolding peer-out relayFromPeer permitted atOr
   arrives = go (find (inSlot (holdsPort t R)) l) refl
     where
       Sent : Slot → Out
@@ -210,14 +211,12 @@ module _ (l : List Slot) (t x p R : ℕ) (id : TransactionId) (s : List ℕ)
       go (At k) e = at k e (has (find (permits t (V4 x)) (slotAt l k .permissions))) refl
 
 -- in a call that is not refused
-module _ (past : List Arrival) (a : Arrival) (R x t : ℕ) (from : FromIpv4 a R x t) (nr : (number : ℕ) → outcome (after past) a ≢ Refused number) where
-  reached : (clockOf (after past) ≤ t) × Verdict (after past .slots) t R (V4 x) (outcome (after past) a)
+module _ (st : State) (past : List Counted) (I : AccountsFor past st) (a : Arrival) (R x t : ℕ) (from : FromAddress a R (V4 x) t)
+    (nr : (number : ℕ) → outcome st a ≢ Refused number) where
+  reached : (clockOf st ≤ t) × Verdict (st .slots) t R (V4 x) (outcome st a)
   unfolding act
   reached = rw (from .2) (go (eqb number 0) refl (rw (from .2) at nr))
     where
-      st : State
-      st = after past
-
       c : Call
       c = Peer (record { time = t; source = record { address = V4 x; port = from .0 }; port = R; id = from .1 })
 
@@ -229,25 +228,25 @@ module _ (past : List Arrival) (a : Arrival) (R x t : ℕ) (from : FromIpv4 a R 
           → (clockOf st ≤ t) × Verdict (st .slots) t R (V4 x) (outcomeOf (pick b (accepted st c (a .datagram)) (refuse number)))
       go true e nr =
           let le : clockOf st ≤ t = not-refused (clockOf st) (st .slots) (a .datagram) (a .reply) c (eqb-true number 0 e) .not-before in
-          (le, rw (peer-stays _ st (a .datagram)) (arrives (st .slots) t x (from .0) R (from .1) (a .datagram) (apart past t le .ports)))
+          (le, rw (peer-stays _ st (a .datagram)) (arrives (st .slots) t x (from .0) R (from .1) (a .datagram) (apart st past I t le .ports)))
       go false e nr = absurd (nr number refl)
 
   -- the table and the history agree on whom it reaches
-  says : (C : FiveTuple) → clockOf (after past) ≤ t → Reach (slotAt (after past .slots)) C R (V4 x) t ↔ Delivers (history past) C R (V4 x) t
+  says : (C : FiveTuple) → clockOf st ≤ t → Reach (slotAt (st .slots)) C R (V4 x) t ↔ GoesTo past C R (V4 x) t
   says C le = (
-    λ r. let g = reach→ _ _ _ (tie past) C R (V4 x) t le r in delivers← _ C R (V4 x) t (g .0) (g .1) (g .2),
-    λ d. let g = delivers→ _ C R (V4 x) t d in reach← _ _ _ (tie past) C R (V4 x) t le (g .0) (g .1) (g .2),
+    λ r. let g = reach→ _ _ _ I C R (V4 x) t le r in goes← _ C R (V4 x) t (g .0) (g .1) (g .2),
+    λ d. let g = goes→ _ C R (V4 x) t d in reach← _ _ _ I C R (V4 x) t le (g .0) (g .1) (g .2),
   )
 
-  one-holder : (C D : FiveTuple) → Delivers (history past) C R (V4 x) t → Delivers (history past) D R (V4 x) t → C ≡ D
-  one-holder C D u v = given-holder (history past) C D R (delivers→ (history past) C R (V4 x) t u .0) (delivers→ (history past) D R (V4 x) t v .0)
+  one-holder : (C D : FiveTuple) → GoesTo past C R (V4 x) t → GoesTo past D R (V4 x) t → C ≡ D
+  one-holder C D u v = given-holder past C D R (goes→ past C R (V4 x) t u .0) (goes→ past D R (V4 x) t v .0)
 
   -- it goes to C exactly when the history says so
-  pub delivery : (C : FiveTuple) → ((n : ℕ) × (outcome (after past) a ≡ ToClient C n)) ↔ Delivers (history past) C R (V4 x) t
+  pub delivery : (C : FiveTuple) → ((n : ℕ) × (outcome st a ≡ ToClient C n)) ↔ GoesTo past C R (V4 x) t
   delivery C = go (reached .0) (reached .1)
     where
-      go : clockOf (after past) ≤ t → Verdict (after past .slots) t R (V4 x) (outcome (after past) a)
-          → ((n : ℕ) × (outcome (after past) a ≡ ToClient C n)) ↔ Delivers (history past) C R (V4 x) t
+      go : clockOf st ≤ t → Verdict (st .slots) t R (V4 x) (outcome st a)
+          → ((n : ℕ) × (outcome st a ≡ ToClient C n)) ↔ GoesTo past C R (V4 x) t
       go le (reaches D n e r) =
           let d = says D le .0 r in (
             λ u. let q : D ≡ C = same D C n (u .0) (sym e ∙ u .1) in rw q at d,
@@ -262,9 +261,34 @@ module _ (past : List Arrival) (a : Arrival) (R x t : ℕ) (from : FromIpv4 a R 
           differ n q = let z : _≡_ {A = ℕ} 0 1 = cc in let y : ⊥ = omega arith in absurd y
 
   -- otherwise to nobody
-  pub nobody : ((C : FiveTuple) → Delivers (history past) C R (V4 x) t → ⊥) → outcome (after past) a ≡ Dropped
+  pub nobody : ((C : FiveTuple) → GoesTo past C R (V4 x) t → ⊥) → outcome st a ≡ Dropped
   nobody none = go (reached .0) (reached .1)
     where
-      go : clockOf (after past) ≤ t → Verdict (after past .slots) t R (V4 x) (outcome (after past) a) → outcome (after past) a ≡ Dropped
+      go : clockOf st ≤ t → Verdict (st .slots) t R (V4 x) (outcome st a) → outcome st a ≡ Dropped
       go le (reaches C n e r) = absurd (none C (says C le .0 r))
       go le (to-none e f) = e
+
+-- ---- 'IPv6 ..: dropped'
+ipv6-out : (t : ℕ) (source : TransportAddress) (id : TransactionId) (s : List ℕ) (own : Bool) (slot : Slot) → isIpv6 (source .address) ≡ true
+    → rules.outcomeOf (relayFromPeer t source id s own slot) ≡ Dropped
+unfolding relayFromPeer
+ipv6-out t source id s true slot e = rw e
+ipv6-out t source id s false slot e = refl
+
+pub ipv6-dropped : (st : State) (a : Arrival) (R p q r w t : ℕ) → FromAddress a R (V6 p q r w) t → ((number : ℕ) → outcome st a ≢ Refused number) → outcome st a ≡ Dropped
+unfolding act peer-out
+ipv6-dropped st a R p q r w t from nr = rw (from .2) (go (eqb number 0) (rw (from .2) at nr))
+  where
+    call : FromPeer
+    call = record { time = t; source = record { address = V6 p q r w; port = from .0 }; port = R; id = from .1 }
+
+    number : ℕ
+    number = refusal (clockOf st) (lengths (length (st .slots)) (length (a .datagram)) (length (a .reply))) (Peer call)
+
+    found : Found
+    found = find (inSlot (holdsPort t R)) (st .slots)
+
+    go : (b : Bool) → ((n : ℕ) → outcomeOf (pick b (accepted st (Peer call) (a .datagram)) (refuse number)) ≢ Refused n)
+        → outcomeOf (pick b (accepted st (Peer call) (a .datagram)) (refuse number)) ≡ Dropped
+    go true nr = rw (peer-stays call st (a .datagram)) (ipv6-out t (call .source) (from .1) (a .datagram) (has found) (atOr freshSlot found (st .slots)) refl)
+    go false nr = absurd (nr number refl)

@@ -1,4 +1,4 @@
--- Demand 3, in its words. The first half speaks of the table; the second, `GoesTo`, of the list of calls alone.
+-- Demand 3, in its words. The first half speaks of the table; the second, `GoesTo`, of what the list of calls counts as.
 use Prim.Native.Nat.{ℕ, _+_, _<_, _≤_}
 use mathlib.Core.Path.{_≡_}
 use mathlib.Core.Logic.{_≢_, _⊎_, _↔_}
@@ -7,19 +7,17 @@ use Rattle.address.specs.declared.Address.{Address}
 use Rattle.address.specs.declared.Address.the-variants.{V4}
 use Rattle.address.specs.declared.FiveTuple.{FiveTuple}
 use Rattle.address.specs.declared.TransactionId.{TransactionId}
-use Rattle.table.specs.declared.Slot.{Slot}
-use Rattle.table.specs.declared.Permission.{Permission}
-use Rattle.table.specs.declared.Channel.{Channel}
-use Rattle.table.specs.Table.{freshPermission, freshChannel}
+use Rattle.slot.specs.declared.Slot.{Slot}
+use Rattle.slot.specs.declared.Permission.{Permission}
+use Rattle.slot.specs.declared.Channel.{Channel}
+use Rattle.slot.specs.Slot.{freshPermission, freshChannel}
 use lib.ListN.{getD}
-use Rattle.slots.specs.Slots.{slotAt}
-use Rattle.rules.specs.declared.answer.Outcome.{Outcome}
+use Rattle.table.specs.Table.{slotAt}
 use Rattle.rules.specs.declared.answer.Outcome.the-variants.{Refused, Dropped, ToClient}
-use Rattle.relay.specs.declared.incoming.Call.the-variants.{Peer}
-use Rattle.relay.specs.declared.incoming.FromPeer.{FromPeer}
+use Rattle.interface.specs.declared.incoming.Call.the-variants.{Peer}
 use Rattle.history.specs.Counted.{Counted, gave, kept, allowed}
-use Rattle.relay.specs.State.{empty, clockOf}
-use Rattle.history.specs.Events.{Arrival, outcome, run, events, counted}
+use Rattle.relay.specs.State.{State, empty, clockOf}
+use Rattle.history.specs.Events.{Arrival, Event, Lived, counted}
 
 -- ---- The table
 
@@ -51,41 +49,44 @@ pub record Apart (slots : List Slot) (t : ℕ) : Type 0 where
       → LiveChannel t (channelAt (slotAt slots k .channels) j)
       → channelAt (slotAt slots k .channels) i .peer ≡ channelAt (slotAt slots k .channels) j .peer → i ≡ j
 
--- ---- The history
+-- ---- The history: what was counted, the newest first
 
--- no Refresh of C was accepted since its Allocate, and that one's lifetime is 'not zero and not over at t'
-pub record FromAllocate (C : FiveTuple) (t s n : ℕ) (since : List Counted) : Type 0 where
-  pub none-since : (s n : ℕ) → List·Memᴰ (kept C s n) since → ⊥
+-- a lifetime of n seconds, granted at s: 'not zero and not over at t'
+pub record Lasts (t s n : ℕ) : Type 0 where
   pub not-zero : n ≢ 0
   pub not-over : t < s + n
+
+-- no Refresh of C was accepted since its Allocate, and that one's lifetime lasts
+pub record FromAllocate (C : FiveTuple) (t s n : ℕ) (since : List Counted) : Type 0 where
+  pub none-since : (s n : ℕ) → List·Memᴰ (kept C s n) since → ⊥
+  pub lasts : Lasts t s n
 
 -- or the last accepted Refresh since then counts
 pub record FromRefresh (C : FiveTuple) (t : ℕ) (since : List Counted) : Type 0 where
-  pub older : List Counted
   pub newer : List Counted
+  pub older : List Counted
   pub s : ℕ
   pub n : ℕ
-  pub refresh : since ≡ older ++ kept C s n ∷ newer
+  pub refresh : since ≡ newer ++ kept C s n ∷ older
   pub last : (s n : ℕ) → List·Memᴰ (kept C s n) newer → ⊥
-  pub not-zero : n ≢ 0
-  pub not-over : t < s + n
+  pub lasts : Lasts t s n
 
 -- 'C had a CreatePermission or ChannelBind accepted for that peer's IP address at some s with t < s + 300'
 pub record Permitted (C : FiveTuple) (a : Address) (t : ℕ) (since : List Counted) : Type 0 where
   pub addresses : List Address
-  pub s : ℕ
-  pub accepted : List·Memᴰ (allowed C addresses s) since
+  pub ends : ℕ
+  pub accepted : List·Memᴰ (allowed C addresses ends) since
   pub named : List·Memᴰ a addresses
-  pub recent : t < s + 300
+  pub recent : t < ends
 
--- what a list of counted events says of a datagram from address a, at port R, at time t
-pub record GoesTo (list : List Counted) (C : FiveTuple) (R : ℕ) (a : Address) (t : ℕ) : Type 0 where
-  pub before : List Counted
+-- what was counted says of a datagram from address a, at port R, at time t, that it goes to C
+pub record GoesTo (past : List Counted) (C : FiveTuple) (R : ℕ) (a : Address) (t : ℕ) : Type 0 where
   pub since : List Counted
+  pub before : List Counted
   pub s : ℕ
   pub n : ℕ
   -- 'C's own latest accepted Allocate gave R and nobody has been given R after it'
-  pub allocate : list ≡ before ++ gave C R s n ∷ since
+  pub allocate : past ≡ since ++ gave C R s n ∷ before
   pub latest : (P s n : ℕ) → List·Memᴰ (gave C P s n) since → ⊥
   pub alone : (D : FiveTuple) (s n : ℕ) → List·Memᴰ (gave D R s n) since → ⊥
   -- 'the last lifetime granted to C, by that Allocate or an accepted Refresh after it, is not zero and not over at t'
@@ -95,16 +96,32 @@ pub record GoesTo (list : List Counted) (C : FiveTuple) (R : ℕ) (a : Address) 
 
 -- ---- The demand
 
--- an IPv4 peer's datagram
-abbrev pub FromIpv4 : Arrival → (R x t : ℕ) → Type 0
-FromIpv4 a R x t = (p : ℕ) × (id : TransactionId) × (a .call ≡ Peer (record { time = t; source = record { address = V4 x; port = p }; port = R; id = id }))
+-- a peer's datagram, from address a at any port, to port R, at time t
+abbrev pub FromAddress : Arrival → ℕ → Address → ℕ → Type 0
+FromAddress arrival R a t =
+    (p : ℕ) × (id : TransactionId) × (arrival .call ≡ Peer (record { time = t; source = record { address = a; port = p }; port = R; id = id }))
 
-pub record Demand3 (calls : List Arrival) : Type 0 where
-  -- after these calls, 'at the stored clock and any later time'
-  pub apart : (t : ℕ) → clockOf (run empty calls) ≤ t → Apart (run empty calls .slots) t
+-- one of the list that is not refused; `before` is 'the calls before that datagram'
+pub record Comes (list before : List Event) (e : Event) (R : ℕ) (a : Address) (t : ℕ) : Type 0 where
+  pub after : List Event
+  pub split : list ≡ before ++ e ∷ after
+  pub from : FromAddress (e .arrival) R a t
+  pub not-refused : (number : ℕ) → e .outcome ≢ Refused number
+
+-- 'To C: the client outcome with 5-tuple C'
+abbrev pub To : FiveTuple → Event → Type 0
+To C e = (n : ℕ) × (e .outcome ≡ ToClient C n)
+
+-- 'one claim about the whole list': from a state on, where `past` was counted before
+pub record Demand3From (first : State) (past : List Counted) (list : List Event) : Type 0 where
+  -- 'Every moment: before the first call and after each, at the stored clock and any later time'
+  pub apart : (before after : List Event) → list ≡ before ++ after → (st : State) → Lived first before st → (t : ℕ) → clockOf st ≤ t → Apart (st .slots) t
   -- 'a peer's datagram goes to client C exactly when the history of accepted requests says so'
-  pub goes-to : (a : Arrival) (R x t : ℕ) → FromIpv4 a R x t → ((number : ℕ) → outcome (run empty calls) a ≢ Refused number)
-      → (C : FiveTuple) → ((n : ℕ) × (outcome (run empty calls) a ≡ ToClient C n)) ↔ GoesTo (counted [] (events empty calls)) C R (V4 x) t
+  pub goes-to : (before : List Event) (e : Event) (R x t : ℕ) → Comes list before e R (V4 x) t → (C : FiveTuple) → To C e ↔ GoesTo (counted past before) C R (V4 x) t
   -- 'to nobody: dropped'
-  pub to-nobody : (a : Arrival) (R x t : ℕ) → FromIpv4 a R x t → ((number : ℕ) → outcome (run empty calls) a ≢ Refused number)
-      → ((C : FiveTuple) → GoesTo (counted [] (events empty calls)) C R (V4 x) t → ⊥) → outcome (run empty calls) a ≡ Dropped
+  pub to-nobody : (before : List Event) (e : Event) (R x t : ℕ) → Comes list before e R (V4 x) t
+      → ((C : FiveTuple) → GoesTo (counted past before) C R (V4 x) t → ⊥) → e .outcome ≡ Dropped
+
+-- 'An empty relay is a fresh one.'
+abbrev pub Demand3 : List Event → Type 0
+Demand3 list = Demand3From empty [] list

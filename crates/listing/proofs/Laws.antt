@@ -4,20 +4,28 @@ use mathlib.Core.Path.{_≡_, refl, sym, ap, _∙_, subst}
 use mathlib.Core.Bool.{Bool, true, false}
 use mathlib.Core.List.{List, [], _∷_, _++_, append-assoc, append-nil}
 use native.Mathlib.Omega.{arith}
-use native.Mathlib.Nat.{suc-add, add-suc, add-zero, zero-add, suc-mul}
+use native.Mathlib.Nat.{suc-add, add-suc, add-zero, zero-add, suc-mul, lt-of-lt-of-le}
 use native.Mathlib.Numerals.{add-one}
-use lib.Dec.{leb}
+use lib.Dec.{leb, lit≤}
 use borrow.Author.Tests.{eq-eqb, ne-eqb, le-leb, lt-leb}
 use lib.ListN.{length, getD, take, drop, set, length-append, length-drop, take-append-drop, drop-of-length-le}
 use lib.Seq.{take-all, take-at, drop-at, drop-drop, set-split, length-take-le}
 use borrow.Rule.Slice.PartMut.{midOf, putMid}
-use Rattle.wire.specs.Wire.{Wrote}
-use Rattle.table.specs.declared.Slot.{Slot}
-use Rattle.table.specs.Table.{liveAllocation, freshSlot}
-use Rattle.slots.specs.Slots.{slotAt}
+use Rattle.choice.specs.Choice.{pick}
+use Rattle.wire.specs.Inner.{Wrote}
+use Rattle.text.specs.Text.{lineText, decimal}
+use Rattle.text.proofs.Laws.{length-decimal, size-le, decimal-length, address-length}
+use Rattle.slot.specs.declared.Allocation.{Allocation}
+use Rattle.slot.specs.declared.Permission.{Permission}
+use Rattle.slot.specs.declared.Channel.{Channel}
+use Rattle.slot.specs.declared.Slot.{Slot}
+use Rattle.slot.specs.Slot.{liveAllocation, livePermission, liveChannel, freshSlot}
+use Rattle.table.specs.Table.{slotAt}
+use Rattle.listing.specs.declared.Listed.{Listed}
 use Rattle.listing.specs.declared.Listed.the-variants.{Refused, Length}
-use Rattle.listing.specs.Listing.{allocationLine, permissionLines, channelLines, slotLines, listing, Lists}
-use Rattle.listing.specs.Texts.{texts, Put}
+use Rattle.listing.specs.Listing.{allocationLine, permissionLine, channelLine, permissionLines, channelLines, slotLines, listing, Lists}
+use Rattle.listing.specs.Texts.{texts}
+use Rattle.listing.specs.Inner.{Put}
 
 -- ---- a text at a place
 
@@ -152,23 +160,57 @@ lines-lapsed clock k slot e t = rw (sym e ∙ t)
 pub sizes-add : (s t u : List ℕ) {a b c : ℕ} → a ≡ length s → b ≡ length t → c ≡ length u → a + b + c ≡ length (s ++ t ++ u)
 sizes-add s t u e f g = rw (length-append, length-append) (omega arith)
 
+-- ---- how long a line can be, where the slot's number is below 64 and every field fits its type
+
+decimal-most : (w n : ℕ) → n < 10 ^ suc w → length (decimal n) ≤ suc w
+decimal-most w n h = rw length-decimal (size-le w n h)
+
+number-most : (k : ℕ) → k < 64 → length (decimal k) ≤ 2
+number-most k h = decimal-most 1 k (lt-of-lt-of-le h (lit≤ tt))
+
+word-most : (n : ℕ) → n < 2 ^ 16 → length (decimal n) ≤ 5
+word-most n h = decimal-most 4 n (lt-of-lt-of-le h (lit≤ tt))
+
+picked-most : (b : Bool) (l : List ℕ) {m : ℕ} → length l ≤ m → length (pick b l []) ≤ m
+picked-most true l h = h
+picked-most false l h = omega arith
+
+pub allocation-most : (k : ℕ) (a : Allocation) → k < 64 → a .user < 2 ^ 8 → a .«five_tuple» .client .port < 2 ^ 16 → a .«five_tuple» .server .port < 2 ^ 16 → a .port < 2 ^ 16 → a .expiry < 2 ^ 64
+    → length (allocationLine k a) ≤ 114
+unfolding allocationLine lineText
+allocation-most k a hk hu hc hs hp he =
+    rw (length-append, length-append, length-append, length-append, length-append, length-append, length-append, length-append, length-append)
+    (omega (arith, number-most k hk, decimal-most 2 (a .user) (lt-of-lt-of-le hu (lit≤ tt)), address-length (a .«five_tuple» .client .address), word-most _ hc, address-length (a .«five_tuple» .server .address), word-most _ hs, word-most _ hp, decimal-length _ he))
+
+pub permission-most : (clock k : ℕ) (p : Permission) → k < 64 → p .expiry < 2 ^ 64 → length (permissionLine clock k p) ≤ 59
+unfolding permissionLine lineText
+permission-most clock k p hk he =
+    picked-most (livePermission clock p) _
+    (rw (length-append, length-append, length-append, length-append) (omega (arith, number-most k hk, address-length (p .address), decimal-length _ he)))
+
+pub channel-most : (clock k : ℕ) (c : Channel) → k < 64 → c .number < 2 ^ 16 → c .peer .port < 2 ^ 16 → c .expiry < 2 ^ 64 → length (channelLine clock k c) ≤ 71
+unfolding channelLine lineText
+channel-most clock k c hk hn hp he =
+    picked-most (liveChannel clock c) _
+    (rw (length-append, length-append, length-append, length-append, length-append, length-append) (omega (arith, number-most k hk, word-most _ hn, address-length (c .peer .address), word-most _ hp, decimal-length _ he)))
+
 -- ---- the walks over the slots
 
-module _ (clock : ℕ) {slots : List Slot} {size i : ℕ} (r : Sizing (slotLines clock) 5610 slots size i) where
-  pub listing-sum : {n : ℕ} → length slots ≡ 64 → i < length slots → n ≤ 5610 → size + n < 2 ^ 64
+module _ (clock : ℕ) {slots : List Slot} {size i : ℕ} (r : Sizing (slotLines clock) 1154 slots size i) where
+  pub listing-sum : {n : ℕ} → length slots ≡ 64 → i < length slots → n ≤ 1154 → size + n < 2 ^ 64
   listing-sum e h b = omega (arith, r .low)
 
-  pub listing-sized : length slots ≤ i → size ≡ length (listing clock slots)
+  pub listing-sized : length slots ≡ 64 → length slots ≤ i → (size ≡ length (listing clock slots)) × (size ≤ 73856)
   unfolding listing
-  listing-sized h = sizing-end r h
+  listing-sized e h = (sizing-end r h, omega (arith, r .low, r .within))
 
 pub listing-start : (clock : ℕ) (slots : List Slot) (d : List ℕ) → Putting (slotLines clock) slots 0 d d 0 0
 listing-start clock slots d = putting-start slots 0 d (omega arith)
 
 module _ (clock : ℕ) {slots : List Slot} {d out : List ℕ} {place i : ℕ} (r : Putting (slotLines clock) slots 0 d out place i) where
-  pub listing-fits : (slot : Slot) → i < length slots → slot ≡ slotAt slots i → length (listing clock slots) ≤ length d → place + length (slotLines clock i slot) ≤ length out
+  pub lines-fit : (slot : Slot) → i < length slots → slot ≡ slotAt slots i → length (listing clock slots) ≤ length d → place + length (slotLines clock i slot) ≤ length out
   unfolding listing
-  listing-fits slot h e b = putting-fits r slot freshSlot h e (rw zero-add b)
+  lines-fit slot h e b = putting-fits r slot freshSlot h e (rw zero-add b)
 
   pub listing-put : length slots ≤ i → out ≡ listing clock slots ++ drop (length (listing clock slots)) d
   unfolding listing
@@ -178,18 +220,25 @@ module _ (clock : ℕ) {slots : List Slot} {d out : List ℕ} {place i : ℕ} (r
 
 module _ {clock : ℕ} {slots : List Slot} {d : List ℕ} where
   pub lists-count : (length slots ≡ 64 → ⊥) → Lists clock slots d d (Refused 6)
-  lists-count n = record { answers = rw (ne-eqb (length slots) 64 n); output = rw (ne-eqb (length slots) 64 n) }
+  lists-count n = record { answers = rw (ne-eqb (length slots) 64 n); output = rw (ne-eqb (length slots) 64 n); most = λ e. absurd (n e) }
 
-  module _ (e : length slots ≡ 64) where
-    pub lists-short : {size : ℕ} → size ≡ length (listing clock slots) → length d < size → Lists clock slots d d (Refused 8)
-    lists-short {size} q h =
+  module _ (e : length slots ≡ 64) {size : ℕ} (q : (size ≡ length (listing clock slots)) × (size ≤ 73856)) where
+    pub lists-short : length d < size → Lists clock slots d d (Refused 8)
+    lists-short h =
         let f = eq-eqb (length slots) 64 e in
-        let g : leb (length (listing clock slots)) (length d) ≡ false = lt-leb (length (listing clock slots)) (length d) (rw (← q) h) in
-        record { answers = rw (f, g); output = rw (f, g) }
+        let g : leb (length (listing clock slots)) (length d) ≡ false = lt-leb (length (listing clock slots)) (length d) (rw (← q .0) h) in
+        record { answers = rw (f, g); output = rw (f, g); most = λ _. rw (← q .0) (q .1) }
 
-    pub lists-whole : {size : ℕ} {l : List ℕ} → size ≡ length (listing clock slots) → size ≤ length d
-        → l ≡ listing clock slots ++ drop (length (listing clock slots)) d → Lists clock slots d l (Length size)
-    lists-whole {size} {l} q h p =
+    pub lists-whole : {l : List ℕ} → size ≤ length d → l ≡ listing clock slots ++ drop (length (listing clock slots)) d → Lists clock slots d l (Length size)
+    lists-whole {l} h p =
         let f = eq-eqb (length slots) 64 e in
-        let g : leb (length (listing clock slots)) (length d) ≡ true = le-leb (length (listing clock slots)) (length d) (rw (← q) h) in
-        record { answers = rw (f, g, q); output = rw (f, g) p }
+        let g : leb (length (listing clock slots)) (length d) ≡ true = le-leb (length (listing clock slots)) (length d) (rw (← q .0) h) in
+        record { answers = rw (f, g, q .0); output = rw (f, g) p; most = λ _. rw (← q .0) (q .1) }
+
+  -- every listing of 64 slots fits into 73,856 bytes: it is never refused for room there
+  pub listing-fits : {l : List ℕ} {answer : Listed} → Lists clock slots d l answer → length slots ≡ 64 → 73856 ≤ length d
+      → (answer ≡ Length (length (listing clock slots))) × (l ≡ listing clock slots ++ drop (length (listing clock slots)) d)
+  listing-fits p e h =
+      let f = eq-eqb (length slots) 64 e in
+      let g : leb (length (listing clock slots)) (length d) ≡ true = le-leb (length (listing clock slots)) (length d) (omega (arith, p .most e)) in
+      (p .answers ∙ rw (f, g), p .output ∙ rw (f, g))

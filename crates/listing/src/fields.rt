@@ -1,12 +1,13 @@
 // The lines of a listing as their fields, by value. A line has at most ten; those that are missing are `Nothing`.
 use address::Address;
-use table::Allocation;
-use table::Channel;
-use table::Permission;
-use table::channels::channel_is_live;
-use table::permissions::permission_is_live;
+use slot::Allocation;
+use slot::Channel;
+use slot::Permission;
+use slot::channels::channel_is_live;
+use slot::permissions::permission_is_live;
 ghost use mathlib.Core.Path.{_≡_};
-ghost use Rattle.listing.specs.Listing.{fieldsText, allocationLine, permissionLine, channelLine};
+ghost use Rattle.listing.specs.Inner.{fieldsText};
+ghost use Rattle.listing.specs.Listing.{allocationLine, permissionLine, channelLine};
 
 pub enum Field {
     // A letter or a newline.
@@ -18,7 +19,7 @@ pub enum Field {
     Nothing,
 }
 
-pub fn allocation_fields(k: usize, allocation: Allocation) -> [Field; 10]
+pub(crate) fn allocation_fields(k: usize, allocation: Allocation) -> [Field; 10]
     ensures { λ r. ⌜ fieldsText r ≡ allocationLine k allocation ⌝ }
 {
     let five_tuple = allocation.five_tuple;
@@ -40,7 +41,7 @@ pub fn allocation_fields(k: usize, allocation: Allocation) -> [Field; 10]
     ]
 }
 
-pub fn permission_fields(clock: u64, k: usize, permission: Permission) -> [Field; 10]
+pub(crate) fn permission_fields(clock: u64, k: usize, permission: Permission) -> [Field; 10]
     ensures { λ r. ⌜ fieldsText r ≡ permissionLine clock k permission ⌝ }
 {
     let mut fields = [Field::Nothing; 10];
@@ -56,7 +57,7 @@ pub fn permission_fields(clock: u64, k: usize, permission: Permission) -> [Field
     fields
 }
 
-pub fn channel_fields(clock: u64, k: usize, channel: Channel) -> [Field; 10]
+pub(crate) fn channel_fields(clock: u64, k: usize, channel: Channel) -> [Field; 10]
     ensures { λ r. ⌜ fieldsText r ≡ channelLine clock k channel ⌝ }
 {
     let mut fields = [Field::Nothing; 10];

@@ -2,9 +2,9 @@
 // value, in the modules.
 use puts::put_slot;
 use sizes::slot_size;
-use slots::slot_at;
-use slots::slot_count;
-use table::Slot;
+use slot::Slot;
+use table::slot_at;
+use table::slot_count;
 ghost use mathlib.Core.Path.{_≡_};
 ghost use mathlib.Core.List.{_++_};
 ghost use Prim.Native.Nat.{_≤_};
@@ -24,7 +24,7 @@ pub enum Listed {
 // The first pass.
 fn text_size(slots: &[Slot], clock: u64) -> usize
     requires { ⌜ length (now slots) ≡ 64 ⌝ }
-    ensures { λ r. ⌜ r ≡ length (listing clock (now (slots .entry))) ⌝ }
+    ensures { λ r. ⌜ (r ≡ length (listing clock (now (slots .entry)))) × (r ≤ 73856) ⌝ }
 {
     let mut size: usize = 0;
     let mut i: usize = 0;

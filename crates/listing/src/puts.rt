@@ -4,17 +4,18 @@ use crate::fields::allocation_fields;
 use crate::fields::channel_fields;
 use crate::fields::permission_fields;
 use address::Address;
-use table::Channel;
-use table::Permission;
-use table::Slot;
-use table::allocations::allocation_is_live;
+use slot::Channel;
+use slot::Permission;
+use slot::Slot;
+use slot::allocations::allocation_is_live;
 use text::put_decimal;
 ghost use mathlib.Core.List.{[], _∷_};
 ghost use Prim.Native.Nat.{_+_, _≤_};
 ghost use lib.ListN.{length};
 ghost use Rattle.text.specs.Text.{decimal, addressText};
-ghost use Rattle.listing.specs.Texts.{Put};
-ghost use Rattle.listing.specs.Listing.{fieldText, fieldsText, permissionLines, channelLines, slotLines};
+ghost use Rattle.listing.specs.Inner.{Put};
+ghost use Rattle.listing.specs.Inner.{fieldText, fieldsText};
+ghost use Rattle.listing.specs.Listing.{permissionLines, channelLines, slotLines};
 
 fn put_byte(output: &mut [u8], place: usize, b: u8) -> usize
     requires { ⌜ place + length (b ∷ []) ≤ length (now output) ⌝ }
@@ -114,7 +115,7 @@ fn put_channels(
     next
 }
 
-pub fn put_slot(output: &mut [u8], place: usize, clock: u64, k: usize, slot: Slot) -> usize
+pub(crate) fn put_slot(output: &mut [u8], place: usize, clock: u64, k: usize, slot: Slot) -> usize
     requires { ⌜ place + length (slotLines clock k slot) ≤ length (now output) ⌝ }
     ensures { λ r. ⌜ Put (slotLines clock k slot) place (now (output .entry)) (now (output .exit)) r ⌝ }
 {

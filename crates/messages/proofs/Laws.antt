@@ -7,14 +7,16 @@ use lib.Seq.{take-suc}
 use lib.Dec.{lit≤}
 use native.Mathlib.Omega.{arith}
 use native.Mathlib.Numerals.{add-one}
-use Rattle.wire.specs.Wire.{bytesOf, Wrote, WroteAt}
+use Rattle.wire.specs.Wire.{bytesOf}
+use Rattle.wire.specs.Inner.{Wrote, WroteAt}
 use Rattle.wire.proofs.Laws.{length-bytes}
 use Rattle.address.specs.declared.Address.{Address}
 use Rattle.address.specs.declared.Address.the-variants.{V4, V6}
-use Rattle.address.specs.declared.Peer.{Peer}
+use Rattle.address.specs.declared.TransportAddress.{TransportAddress}
 use Rattle.address.specs.declared.TransactionId.{TransactionId}
 use Rattle.stun.specs.declared.kinds.Method.{Method}
-use Rattle.messages.specs.Messages.{headerBytes, attributeHead, padding, attributeBytes, attributeSize, messageBytes, addressAttribute, addressSize, typesBytes, allocateSuccess, refreshSuccess, bareSuccess, errorResponse, unknownResponse, dataIndication, channelData, Sent}
+use Rattle.messages.specs.Messages.{headerBytes, padding, attributeBytes, messageBytes, addressAttribute, typesBytes, allocateSuccess, refreshSuccess, bareSuccess, errorResponse, unknownResponse, dataIndication, channelData}
+use Rattle.messages.specs.Inner.{attributeHead, attributeSize, addressSize, Sent}
 
 -- ---- An attribute
 
@@ -83,7 +85,7 @@ message-sent type id body t e s w =
 -- ---- No message is longer than 1536 bytes, with 16 types or 1500 bytes of payload at most
 
 module _ (id : TransactionId) where
-  pub allocate-small : (relay port seconds : ℕ) (client : Peer) → length (allocateSuccess id relay port seconds client) ≤ 1536
+  pub allocate-small : (relay port seconds : ℕ) (client : TransportAddress) → length (allocateSuccess id relay port seconds client) ≤ 1536
   unfolding allocateSuccess bytesOf
   allocate-small relay port seconds client =
       omega (arith, length-address 0x0020 id (client .address) (client .port), address-small (client .address))

@@ -1,14 +1,13 @@
 -- The bytes of every message that the relay sends: STUN's header and attributes (RFC 8489, 5 and 14), the responses of document 01's
 -- 'Requests', and the Data indication and ChannelData of its 'Data'.
 use Prim.Native.Nat.{ℕ, _+_, _-_, _*_, _/_, _%_}
-use mathlib.Core.Path.{_≡_}
 use mathlib.Core.List.{List, [], _∷_, _++_}
 use lib.ListN.{length, replicate}
 use lib.Bits.{bitXor}
-use Rattle.wire.specs.Wire.{bytesOf, Wrote}
+use Rattle.wire.specs.Wire.{bytesOf}
 use Rattle.address.specs.declared.Address.{Address}
 use Rattle.address.specs.declared.Address.the-variants.{V4, V6}
-use Rattle.address.specs.declared.Peer.{Peer}
+use Rattle.address.specs.declared.TransportAddress.{TransportAddress}
 use Rattle.address.specs.declared.TransactionId.{TransactionId}
 use Rattle.stun.specs.declared.kinds.Method.{Method}
 use Rattle.stun.specs.declared.kinds.Method.the-variants.{Allocate, Refresh}
@@ -84,7 +83,7 @@ dataAttribute payload = attributeBytes attribute.«data» payload
 -- ---- The messages
 
 -- Allocate: 'Reply: XOR-RELAYED-ADDRESS 0x0016, LIFETIME, XOR-MAPPED-ADDRESS 0x0020 (the client).'
-unfoldable pub allocateSuccess : TransactionId → ℕ → ℕ → ℕ → Peer → List ℕ
+unfoldable pub allocateSuccess : TransactionId → ℕ → ℕ → ℕ → TransportAddress → List ℕ
 unfolding messageBytes addressAttribute lifetimeAttribute
 allocateSuccess id relay port seconds client =
     messageBytes (successType Allocate) id
@@ -118,30 +117,3 @@ dataIndication id peer port payload = messageBytes dataType id (addressAttribute
 -- 'ChannelData: number, length, data', 'without padding'
 unfoldable pub channelData : ℕ → List ℕ → List ℕ
 channelData number payload = bytesOf 2 number ++ bytesOf 2 (length payload) ++ payload
-
--- ---- What a writer of a message does
-
--- the message stands at the front of the buffer, the rest is as it was, and n is the message's length
-pub record Sent (message before after : List ℕ) (n : ℕ) : Type 0 where
-  pub wrote : Wrote message before after
-  pub size : n ≡ length message
-
--- ---- The parts that the writers are cut into
-
--- the type and the length of an attribute
-unfoldable pub attributeHead : ℕ → ℕ → List ℕ
-attributeHead type len = bytesOf 2 type ++ bytesOf 2 len
-
--- the head of an address attribute, a zero byte and the family, and the port
-unfoldable pub addressHead : ℕ → ℕ → ℕ → ℕ → List ℕ
-unfolding attributeHead
-addressHead type len family port = attributeHead type len ++ bytesOf 2 family ++ bytesOf 2 (bitXor port cookieHigh)
-
--- the length of an address attribute
-abbrev pub addressSize : Address → ℕ
-addressSize (V4 a) = 12
-addressSize (V6 a b c d) = 24
-
--- the length of an attribute whose value has n bytes
-abbrev pub attributeSize : ℕ → ℕ
-attributeSize n = 4 + n + padding n

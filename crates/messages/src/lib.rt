@@ -1,8 +1,8 @@
 // Writes every message that the relay sends. Each attribute writer gets the part of the reply that starts after the attributes already
 // written, and writes its value's numbers at their places in that part; each message says its exact bytes (specs/Messages.antt) and how many, and leaves the rest of the reply as it was.
 use address::Address;
-use address::Peer;
 use address::TransactionId;
+use address::TransportAddress;
 use stun::kinds::AttributeKind;
 use stun::kinds::MessageKind;
 use stun::kinds::Method;
@@ -20,8 +20,9 @@ ghost use Prim.Native.Nat.{_≤_, _*_};
 ghost use lib.ListN.{length, take};
 ghost use Rattle.address.specs.declared.TransactionId.{TransactionId};
 ghost use Rattle.address.specs.declared.Address.the-variants.{V4, V6};
-ghost use Rattle.wire.specs.Wire.{Wrote};
-ghost use Rattle.messages.specs.Messages.{transactionIdBytes, headerBytes, attributeHead, addressHead, addressAttribute, addressSize, attributeSize, lifetimeAttribute, errorCodeAttribute, typesBytes, unknownAttribute, dataAttribute, allocateSuccess, refreshSuccess, bareSuccess, errorResponse, unknownResponse, dataIndication, channelData, padding, Sent};
+ghost use Rattle.wire.specs.Inner.{Wrote};
+ghost use Rattle.messages.specs.Messages.{transactionIdBytes, headerBytes, addressAttribute, lifetimeAttribute, errorCodeAttribute, typesBytes, unknownAttribute, dataAttribute, allocateSuccess, refreshSuccess, bareSuccess, errorResponse, unknownResponse, dataIndication, channelData, padding};
+ghost use Rattle.messages.specs.Inner.{attributeHead, addressHead, addressSize, attributeSize, Sent};
 
 // ---- The parts of a message
 
@@ -154,7 +155,7 @@ pub fn put_address(
     }
 }
 
-pub fn put_lifetime(out: &mut [u8], seconds: u32)
+pub(crate) fn put_lifetime(out: &mut [u8], seconds: u32)
     requires { ⌜ 8 ≤ length (now out) ⌝ }
     ensures { λ _. ⌜ Wrote (lifetimeAttribute seconds) (now (out .entry)) (now (out .exit)) ⌝ }
 {
@@ -162,7 +163,7 @@ pub fn put_lifetime(out: &mut [u8], seconds: u32)
     put_u32_at(out, 4, seconds);
 }
 
-pub fn put_error_code(out: &mut [u8], code: u16)
+pub(crate) fn put_error_code(out: &mut [u8], code: u16)
     requires { ⌜ (code ≤ 699) × (8 ≤ length (now out)) ⌝ }
     ensures { λ _. ⌜ Wrote (errorCodeAttribute code) (now (out .entry)) (now (out .exit)) ⌝ }
 {
@@ -173,7 +174,7 @@ pub fn put_error_code(out: &mut [u8], code: u16)
 }
 
 // UNKNOWN-ATTRIBUTES of the first count types; how many bytes it has.
-pub fn put_unknown_attributes(out: &mut [u8], types: [u16; 16], count: usize) -> usize
+pub(crate) fn put_unknown_attributes(out: &mut [u8], types: [u16; 16], count: usize) -> usize
     requires { ⌜ (count ≤ 16) × (36 ≤ length (now out)) ⌝ }
     ensures { λ r. ⌜ Sent (unknownAttribute (take count types)) (now (out .entry)) (now (out .exit)) r ⌝ }
 {
@@ -186,7 +187,7 @@ pub fn put_unknown_attributes(out: &mut [u8], types: [u16; 16], count: usize) ->
 }
 
 // DATA; how many bytes it has.
-pub fn put_data(out: &mut [u8], payload: &[u8]) -> usize
+pub(crate) fn put_data(out: &mut [u8], payload: &[u8]) -> usize
     requires { ⌜ (length (now payload) ≤ 1500) × (1504 ≤ length (now out)) ⌝ }
     ensures { λ r. ⌜ Sent (dataAttribute (now (payload .entry))) (now (out .entry)) (now (out .exit)) r ⌝ }
 {
@@ -206,7 +207,7 @@ pub fn put_allocate_success(
     relay: u32,
     port: u16,
     seconds: u32,
-    client: Peer,
+    client: TransportAddress,
 ) -> usize
     requires { ⌜ 1536 ≤ length (now reply) ⌝ }
     ensures { λ r. ⌜ Sent (allocateSuccess id relay port seconds client) (now (reply .entry)) (now (reply .exit)) r ⌝ }

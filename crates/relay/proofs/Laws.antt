@@ -1,73 +1,49 @@
 -- The laws that the relay's proofs cite.
-use Prim.Native.Nat.{ℕ, zero, suc, _+_, _-_, _<_, _≤_, _^_}
+use Prim.Native.Nat.{ℕ, suc, _-_, _<_, _≤_, _^_}
 use mathlib.Core.Path.{_≡_, refl, sym, ap, subst, _∙_}
 use mathlib.Core.Bool.{Bool, true, false, not, false≢true}
-use mathlib.Core.List.{List, [], _∷_}
-use native.Mathlib.Nat.{zero-add}
+use mathlib.Core.List.{List}
 use native.Mathlib.Omega.{arith}
-use lib.Dec.{eqb, ltb, leb}
-use lib.ListN.{length, getD, set, take}
-use lib.Seq.{ext-getD}
+use lib.Dec.{eqb, ltb}
+use lib.ListN.{length, set}
 use borrow.Author.Tests.{eqb-true, ltb-false, not-true, not-false}
-use Rattle.wire.specs.Wire.{num, partOf}
-use Rattle.stun.specs.declared.kinds.Class.{Class}
-use Rattle.stun.specs.declared.kinds.Class.the-variants as Class
-use Rattle.stun.specs.Kinds.{messageKindOf}
-use Rattle.stun.specs.Message.{sorted, wellFormed}
 use Rattle.choice.specs.Choice.{pick}
-use Rattle.table.specs.declared.Slot.{Slot}
-use Rattle.table.specs.declared.Found.{Found}
-use Rattle.table.specs.declared.Found.the-variants.{At, Nothing}
-use Rattle.table.specs.HeldPorts.{heldIn}
-use Rattle.table.specs.Search.{find, has, atOr}
-use Rattle.table.specs.Table.{freshSlot, holds, holdsPort}
-use Rattle.table.proofs.Bits as Bits
-use Rattle.slots.specs.Slots.{inSlot, keyed, lapsed, Surveyed, Looked, placeOf, Within}
-use Rattle.slots.specs.declared.keys.Wanted.{Wanted}
-use Rattle.slots.specs.declared.surveys.Survey.{Survey}
-use Rattle.slots.proofs.Laws.{found-within, own-within, place-there}
+use Rattle.slot.specs.declared.Slot.{Slot}
+use Rattle.slot.specs.declared.Found.{Found}
+use Rattle.slot.specs.declared.Found.the-variants.{At, Nothing}
+use Rattle.slot.specs.Search.{find, has}
+use Rattle.slot.specs.Slot.{holds, holdsPort}
+use Rattle.table.specs.Table.{inSlot, lapsed}
+use Rattle.table.specs.Inner.{keyed, Looked, placeOf, Within}
+use Rattle.table.specs.declared.keys.Wanted.{Wanted}
+use Rattle.table.specs.declared.surveys.Survey.{Survey}
+use Rattle.table.proofs.Laws.{found-within, own-within, place-there}
 use Rattle.rules.specs.declared.answer.Answer.{Answer}
 use Rattle.rules.specs.declared.answer.Outcome.{Outcome}
 use Rattle.rules.specs.declared.answer.Outcome.the-variants.{Refused}
-use Rattle.rules.specs.declared.client.Asked.{Asked}
-use Rattle.rules.specs.declared.client.Asked.the-variants as Asked
-use Rattle.rules.specs.declared.requests.Survey.{Survey as AllocateSurvey}
-use Rattle.rules.specs.Act.{Out, Change, keep, write, outOf, outcomeOf, replyAfter, writes, slotAfter, Gives, Answers}
-use Rattle.rules.specs.Requests.{allocate, refresh, createPermission, channelBind, portFor}
-use Rattle.rules.specs.Data.{send, channelled}
-use Rattle.rules.specs.Client.{kindAsks, classAsks, askedBy}
-use Rattle.rules.proofs.Accepted.{allocates as allocate-accepted, refreshes, permits, binds}
-use Rattle.rules.proofs.Laws.{well-formed-long, kept-not-written}
-use Rattle.relay.specs.declared.incoming.Call.{Call}
-use Rattle.relay.specs.declared.incoming.Call.the-variants.{Client, Peer}
-use Rattle.relay.specs.declared.incoming.FromClient.{FromClient}
-use Rattle.relay.specs.declared.incoming.FromPeer.{FromPeer}
-use Rattle.relay.specs.declared.refusals.Lengths.{Lengths}
-use Rattle.relay.specs.declared.deciding.Seen.{Seen}
+use Rattle.decisions.specs.declared.client.Asked.{Asked}
+use Rattle.decisions.specs.declared.client.Asked.the-variants as Asked
+use Rattle.rules.specs.Change.{Out, Change, keep, write, outOf, outcomeOf, replyAfter}
+use Rattle.rules.specs.Inner.{writes, slotAfter, Answers}
+use Rattle.decisions.specs.Client.{askedBy}
+use Rattle.rules.proofs.Laws.{kept-not-written}
+use Rattle.interface.specs.declared.incoming.Call.{Call}
+use Rattle.interface.specs.declared.incoming.Call.the-variants.{Client, Peer}
+use Rattle.interface.specs.declared.incoming.FromClient.{FromClient}
+use Rattle.interface.specs.declared.refusals.Lengths.{Lengths}
+use Rattle.decisions.specs.declared.Seen.{Seen}
 use Rattle.relay.specs.declared.state.Bookkeeping.{Bookkeeping}
 use Rattle.relay.specs.State.{State, state, freshBookkeeping, atClock, atTime, withSlots}
-use Rattle.relay.specs.Outcomes.{Act, accept, Does}
-use Rattle.relay.specs.Refusals.{timeOf, lengths, refusal}
-use Rattle.relay.specs.Step.{portsHeld, asRules, surveyOf, aboutFound, aboutOwn, onAsked, decided, done, accepted, act, Stepped}
-use Rattle.relay.specs.Inner.{ReadyClient, ReadyPeer, Ready, UserFits, askedFor, allocates, wantedBy, saw, Saw, placeFor, placeIn, unwritten, WroteBack, Answered}
-
--- ---- A call that is not refused
-pub ready-client : {call : Call} {client : FromClient} {datagram reply : List ℕ} → call ≡ Client client → Ready call datagram reply
-    → ReadyClient client datagram reply
-ready-client {call} {client} {datagram} {reply} e r = subst (λ (x : Call). Ready x datagram reply) e r
-
-pub ready-peer : {call : Call} {peer : FromPeer} {datagram reply : List ℕ} → call ≡ Peer peer → Ready call datagram reply → ReadyPeer peer datagram reply
-ready-peer {call} {peer} {datagram} {reply} e r = subst (λ (x : Call). Ready x datagram reply) e r
-
-pub user-fits : {client : FromClient} (call : Call) → call ≡ Client client → UserFits call → client .user ≤ 32
-user-fits call e r = subst UserFits e r
-
-pub ready-user : (call : Call) (datagram reply : List ℕ) → Ready call datagram reply → UserFits call
-ready-user (Client c) datagram reply r = r .user
-ready-user (Peer c) datagram reply r = tt
+use Rattle.relay.specs.Outcomes.{accept, Does}
+use Rattle.interface.specs.Refusals.{timeOf, lengths, refusal}
+use Rattle.decisions.specs.Decisions.{onAsked, decided}
+use Rattle.relay.specs.Step.{done, accepted, act, Stepped}
+use Rattle.decisions.specs.Inner.{Ready, askedFor, wantedBy, saw, placeFor, placeIn, unwritten}
+use Rattle.relay.specs.Inner.{Saw, WroteBack, Answered}
+use Rattle.decisions.proofs.Laws.{decided-writes}
 
 -- where the checks give no number, this one did not apply, and the rest give none
-none-of : (b : Bool) (c rest : ℕ) → pick b (suc c) rest ≡ 0 → (b ≡ false) × (rest ≡ 0)
+pub none-of : (b : Bool) (c rest : ℕ) → pick b (suc c) rest ≡ 0 → (b ≡ false) × (rest ≡ 0)
 none-of true c rest e = let y : ⊥ = omega (arith, e) in absurd y
 none-of false c rest e = (refl, e)
 
@@ -104,115 +80,6 @@ not-refused clock slots s reply (Peer c) e =
       ready = record { room = ltb-false (length reply) 1536 (a .0); short = ltb-false 1500 (length s) (d .0) };
       not-before = ltb-false (c .time) clock (i .0);
     }
-
--- a STUN message has a header
-abbrev pub isStun : Asked → Bool
-isStun Asked.Allocate = true
-isStun Asked.Refresh = true
-isStun Asked.CreatePermission = true
-isStun Asked.ChannelBind = true
-isStun Asked.Send = true
-isStun Asked.ChannelData = false
-isStun Asked.Nothing = false
-
-pub stun-long : (s : List ℕ) {asked : Asked} (it : Asked) → isStun it ≡ true → asked ≡ it → asked ≡ askedBy s → 20 ≤ length s
-unfolding askedBy
-stun-long s {asked} it y i e = go (sorted s) e
-  where
-    never : {other : Asked} → isStun other ≡ false → asked ≡ other → 20 ≤ length s
-    never n q = absurd (false≢true (sym n ∙ ap isStun (sym q ∙ i) ∙ y))
-
-    formed : (b : Bool) → wellFormed s ≡ b → asked ≡ pick b (kindAsks (messageKindOf (num s 0 2))) Asked.Nothing → 20 ≤ length s
-    formed true w q = well-formed-long s w
-    formed false w q = never refl q
-
-    go : (c : Class) → asked ≡ classAsks s c → 20 ≤ length s
-    go Class.Stun q = formed (wellFormed s) refl q
-    go Class.ChannelData q = never refl q
-    go Class.Neither q = never refl q
-
-pub client-asked : {call : Call} {client : FromClient} {asked : Asked} (s : List ℕ) → call ≡ Client client → asked ≡ askedFor call s → asked ≡ askedBy s
-client-asked {call} {client} {asked} s e q = subst (λ (x : Call). asked ≡ askedFor x s) e q
-
--- ---- The ports held, from the survey of the slots
-pub length-held : (time : ℕ) (slots : List Slot) (k n : ℕ) → length (portsHeld time slots k n) ≡ n
-unfolding portsHeld
-length-held time slots k zero = refl
-length-held time slots k (suc n) = ap suc (length-held time slots (suc k) n)
-
-pub held-at : (time : ℕ) (slots : List Slot) (k n i : ℕ) → i < n
-    → getD (portsHeld time slots k n) i false ≡ has (find (inSlot (holdsPort time (49152 + (k + i)))) slots)
-unfolding portsHeld
-held-at time slots k zero i h = let y : ⊥ = omega arith in absurd y
-held-at time slots k (suc n) zero h = ap (λ (j : ℕ). has (find (inSlot (holdsPort time (49152 + j))) slots)) (let z : k ≡ k + 0 = omega arith in z)
-held-at time slots k (suc n) (suc i) h =
-    held-at time slots (suc k) n i (omega arith)
-    ∙ ap (λ (j : ℕ). has (find (inSlot (holdsPort time (49152 + j))) slots)) (let z : suc k + i ≡ k + suc i = omega arith in z)
-
-ports-held : {wanted : Wanted} {slots : List Slot} {survey : Survey} → Surveyed slots wanted survey
-    → heldIn (survey .ports) ≡ portsHeld (wanted .time) slots 0 128
-ports-held {wanted} {slots} {survey} w =
-    let width = Bits.length-held (survey .ports) in
-    ext-getD false (heldIn (survey .ports)) (portsHeld (wanted .time) slots 0 128) (width ∙ sym (length-held (wanted .time) slots 0 128))
-    (λ i h. w .ports i (rw width at h) ∙ sym (rw zero-add at (held-at (wanted .time) slots 0 128 i (rw width at h))))
-
--- what Allocate asks of the whole table, from a look over it
-pub surveyed : (call : FromClient) {slots : List Slot} {survey : Survey} {own free : Bool} {port : ℕ}
-    → Surveyed slots (wantedBy (Client call) (Asked.Allocate)) survey → own ≡ has (survey .own) → free ≡ has (survey .free)
-    → port ≡ portFor (heldIn (survey .ports)) (call .start)
-    → _≡_ {A = AllocateSurvey} (record { own = own; held = survey .held; free = free; port = port }) (surveyOf call slots)
-unfolding keyed
-surveyed call {slots} {survey} w o f p =
-    let q = p ∙ ap (λ (l : List Bool). portFor l (call .start)) (ports-held w) in
-    let g = f ∙ ap has (w .free) in
-    let h = o ∙ ap has (w .own) in
-    λ i. record { own = h i; held = w .held i; free = g i; port = q i }
-
--- ---- What is decided about the slot that was found
-
--- a request about the caller's own slot
-module _ (call : FromClient) (asked : Asked) {survey : Survey} {own : Slot} {reply reply′ : List ℕ} {answer : Answer} {there : Bool} (h : there ≡ has (survey .own)) where
-  pub own-answers : (rule : Bool → Slot → Change) → Answers (rule there own) own reply reply′ answer
-      → (slots : List Slot) → Looked slots (wantedBy (Client call) asked) survey → own ≡ atOr freshSlot (survey .own) slots
-      → Answers (aboutOwn call slots rule .change) own reply reply′ answer
-  unfolding keyed
-  own-answers rule w slots l e =
-      subst (λ (f : Found). Answers (rule (has f) (atOr freshSlot f slots)) own reply reply′ answer) (l .own)
-      (subst (λ (x : Slot). Answers (rule (has (survey .own)) x) own reply reply′ answer) e
-      (subst (λ (b : Bool). Answers (rule b own) own reply reply′ answer) h w))
-
--- what is given out and keeps the slot
-pub data-answers : {out : Out} {outcome : Outcome} (own : Slot) {reply reply′ : List ℕ} → Gives out reply reply′ outcome → Answers (keep out) own reply reply′ (unwritten outcome own)
-data-answers own g = record { gives = g; writes = refl; slot = refl }
-
-pub quiet-gives : {out : Out} {outcome : Outcome} (reply : List ℕ) → outcome ≡ outcomeOf out → replyAfter reply out ≡ reply → Gives out reply reply outcome
-quiet-gives reply e r = record { outcome-is = e; reply-is = sym r }
-
-pub peer-answers : (call : FromPeer) {survey : Survey} {own : Slot} {reply reply′ : List ℕ} {outcome : Outcome} {there : Bool} → there ≡ has (survey .own)
-    → (rule : Bool → Slot → Out) → Gives (rule there own) reply reply′ outcome
-    → (slots : List Slot) → Looked slots (wantedBy (Peer call) Asked.Nothing) survey → own ≡ atOr freshSlot (survey .own) slots
-    → Answers (aboutFound slots (find (inSlot (holdsPort (call .time) (call .port))) slots) (λ b slot. keep (rule b slot)) .change) own reply reply′ (unwritten outcome own)
-unfolding keyed
-peer-answers call {survey} {own} {reply} {reply′} {outcome} {there} h rule g slots l e =
-    subst (λ (f : Found). Answers (keep (rule (has f) (atOr freshSlot f slots))) own reply reply′ (unwritten outcome own)) (l .own)
-    (subst (λ (x : Slot). Answers (keep (rule (has (survey .own)) x)) own reply reply′ (unwritten outcome own)) e
-    (subst (λ (b : Bool). Answers (keep (rule b own)) own reply reply′ (unwritten outcome own)) h (data-answers own g)))
-
--- a slot is written only where one was found
-module _ (call : FromClient) (s : List ℕ) (slots : List Slot) where
-  asked-writes : (asked : Asked) (slot : Slot) (out : Out) → onAsked call s slots asked .change ≡ write slot out → has (onAsked call s slots asked .place) ≡ true
-  asked-writes Asked.Allocate slot out e = allocate-accepted (asRules call) s slot out (surveyOf call slots) e .room
-  asked-writes Asked.Refresh slot out e = refreshes (asRules call) s slot out _ _ e .owner .live
-  asked-writes Asked.CreatePermission slot out e = permits (asRules call) s slot out _ _ e .owner .live
-  asked-writes Asked.ChannelBind slot out e = binds (asRules call) s slot out _ _ e .owner .live
-  asked-writes Asked.Send slot out e = kept-not-written e
-  asked-writes Asked.ChannelData slot out e = kept-not-written e
-  asked-writes Asked.Nothing slot out e = kept-not-written e
-
-pub decided-writes : (call : Call) (s : List ℕ) (slots : List Slot) (slot : Slot) (out : Out) → decided call s slots .change ≡ write slot out → has (decided call s slots .place) ≡ true
-unfolding decided
-decided-writes (Client call) s slots slot out e = asked-writes call s slots (askedBy s) slot out e
-decided-writes (Peer call) s slots slot out e = kept-not-written e
 
 -- ---- The step
 
@@ -359,12 +226,6 @@ module _ (slots : List Slot) (kept : Bookkeeping) (call : Call) (s reply : List 
 pub seen-within : (slots : List Slot) {call : Call} {s : List ℕ} {seen : Seen} → Saw slots call s seen → Within (seen .survey .own) (length slots)
 seen-within slots w = own-within slots (w .looked)
 
-pub read-within : (slots : List Slot) (seen : Seen) {survey : Survey} → survey ≡ seen .survey → Within (seen .survey .own) (length slots) → Within (survey .own) (length slots)
-read-within slots seen e w = subst (λ (x : Survey). Within (x .own) (length slots)) (sym e) w
-
-pub own-same : (slots : List Slot) {survey survey′ : Survey} → survey ≡ survey′ → atOr freshSlot (survey .own) slots ≡ atOr freshSlot (survey′ .own) slots
-own-same slots e = ap (λ (x : Survey). atOr freshSlot (x .own) slots) e
-
 -- the slot that is written lies in the table, and it is written back
 module _ (slots : List Slot) (call : Call) (s reply : List ℕ) (seen : Seen) {reply′ : List ℕ} {own : Slot} {answer : Answer} (sees : Saw slots call s seen)
     (w : Answers (decided call s slots .change) own reply reply′ answer) where
@@ -391,13 +252,12 @@ module _ (slots : List Slot) (seen : Seen) (answer : Answer) {none : Bool} {outc
     slots-are = rw (not-false (answer .writes) (sym e ∙ n)) (g ∙ ap (λ (j : ℕ). set slots j slot) p ∙ ap (set slots (placeIn seen)) c);
   }
 
+-- data writes none
+pub data-back : (slots : List Slot) (seen : Seen) {own : Slot} {outcome : Outcome} → WroteBack seen (unwritten outcome own) outcome slots slots
+data-back slots seen = record { outcome-is = refl; slots-are = refl }
+
 -- a call that was answered, with the clock as it was set
 pub clock-set : {slots : List Slot} {kept kept′ : Bookkeeping} {call : Call} {s : List ℕ} {outcome : Outcome} {slots′ : List Slot} {reply reply′ : List ℕ} → kept′ ≡ atClock (timeOf call) kept
     → Answered slots call s outcome slots′ reply reply′ → Does (accepted (state slots kept) call s) (state slots kept) outcome (state slots′ kept′) reply reply′
 clock-set {slots} {kept} {kept′} {call} {s} {outcome} {slots′} {reply} {reply′} e w =
     subst (λ (b : Bookkeeping). Does (accepted (state slots kept) call s) (state slots kept) outcome (state slots′ b) reply reply′) (sym e) (w .does kept)
-
--- ---- The parts that are sent
-pub part-first : (s : List ℕ) (len : ℕ) → partOf s 0 len ≡ pick (leb len (length s)) (take len s) []
-unfolding partOf
-part-first s len = rw (zero-add len)

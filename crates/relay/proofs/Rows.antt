@@ -10,26 +10,26 @@ use denote.Array.{Array, arrayVal}
 use denote.Laws.{Is}
 use denote.Struct.Laws as SL
 use Rattle.walk.proofs.Walk.{Row, Typed, struct-row, enum-row, array-row, array-into, map-twice}
-use Rattle.slots.proofs.Rows.{slot-row}
-use Rattle.table.specs.declared.Slot.{Slot}
-use Rattle.table.proofs.Slot as Slot-t
-use Rattle.table.proofs.Slot.Laws as Slot-l
+use Rattle.table.proofs.Rows.{slot-row}
+use Rattle.slot.specs.declared.Slot.{Slot}
+use Rattle.slot.proofs.Slot as Slot-t
+use Rattle.slot.proofs.Slot.Laws as Slot-l
 use Rattle.rules.specs.declared.answer.Outcome.{Outcome}
 use Rattle.rules.proofs.answer.Answer as Answer-t
 use Rattle.rules.proofs.answer.Answer.Laws as Answer-l
 use Rattle.rules.proofs.answer.Outcome as Outcome-t
 use Rattle.rules.proofs.answer.Outcome.Laws as Outcome-l
-use Rattle.relay.proofs.incoming.Call as Call-t
-use Rattle.relay.proofs.incoming.Call.Laws as Call-l
+use Rattle.interface.proofs.incoming.Call as Call-t
+use Rattle.interface.proofs.incoming.Call.Laws as Call-l
 use Rattle.relay.specs.declared.state.Bookkeeping.{Bookkeeping}
 use Rattle.relay.proofs.state.Bookkeeping as Bookkeeping-t
 use Rattle.relay.proofs.state.Bookkeeping.Laws as Bookkeeping-l
-use Rattle.relay.proofs.refusals.Lengths as Lengths-t
-use Rattle.relay.proofs.refusals.Lengths.Laws as Lengths-l
-use Rattle.relay.proofs.deciding.Seen as Seen-t
-use Rattle.relay.proofs.deciding.Seen.Laws as Seen-l
-use Rattle.rules.proofs.client.Asked as Asked-t
-use Rattle.rules.proofs.client.Asked.Laws as Asked-l
+use Rattle.interface.proofs.refusals.Lengths as Lengths-t
+use Rattle.interface.proofs.refusals.Lengths.Laws as Lengths-l
+use Rattle.decisions.proofs.Seen as Seen-t
+use Rattle.decisions.proofs.Seen.Laws as Seen-l
+use Rattle.decisions.proofs.client.Asked as Asked-t
+use Rattle.decisions.proofs.client.Asked.Laws as Asked-l
 use Rattle.relay.specs.declared.Held.{Held}
 use Rattle.relay.proofs.Held as Held-t
 use Rattle.relay.proofs.Held.Laws as Held-l

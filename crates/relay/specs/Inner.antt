@@ -1,103 +1,31 @@
 -- What the functions inside the relay promise each other. No public statement rests on it.
-use Prim.Native.Nat.{ℕ, _^_, _≤_}
-use mathlib.Core.Bool.{Bool, true, false}
+use Prim.Native.Nat.{ℕ}
 use mathlib.Core.List.{List}
 use mathlib.Core.Path.{_≡_}
-use lib.ListN.{length, set}
+use lib.ListN.{set}
 use Rattle.choice.specs.Choice.{pick}
-use Rattle.table.specs.declared.Slot.{Slot}
-use Rattle.table.specs.declared.Found.{Found}
-use Rattle.table.specs.Search.{atOr}
-use Rattle.table.specs.Table.{freshSlot}
-use Rattle.slots.specs.declared.keys.Key.{Key}
-use Rattle.slots.specs.declared.keys.Key.the-variants as Key
-use Rattle.slots.specs.declared.keys.Wanted.{Wanted}
-use Rattle.slots.specs.declared.surveys.Survey.{Survey}
-use Rattle.slots.specs.Slots.{placeOf, Looked}
+use Rattle.slot.specs.declared.Slot.{Slot}
+use Rattle.table.specs.Inner.{Looked}
 use Rattle.rules.specs.declared.answer.Answer.{Answer}
 use Rattle.rules.specs.declared.answer.Outcome.{Outcome}
-use Rattle.rules.specs.declared.client.Asked.{Asked}
-use Rattle.rules.specs.declared.client.Asked.the-variants as Asked
-use Rattle.rules.specs.Act.{Change, Answers}
-use Rattle.rules.specs.Client.{askedBy}
-use Rattle.relay.specs.declared.incoming.Call.{Call}
-use Rattle.relay.specs.declared.incoming.Call.the-variants.{Client, Peer}
-use Rattle.relay.specs.declared.incoming.FromClient.{FromClient}
-use Rattle.relay.specs.declared.incoming.FromPeer.{FromPeer}
-use Rattle.relay.specs.declared.deciding.Seen.{Seen}
+use Rattle.interface.specs.declared.incoming.Call.{Call}
+use Rattle.decisions.specs.declared.Seen.{Seen}
 use Rattle.relay.specs.declared.state.Bookkeeping.{Bookkeeping}
 use Rattle.relay.specs.State.{state, atClock}
 use Rattle.relay.specs.Outcomes.{Does}
-use Rattle.relay.specs.Refusals.{timeOf}
+use Rattle.interface.specs.Refusals.{timeOf}
 use Rattle.relay.specs.Step.{accepted}
-
--- ---- What a call that is not refused has: the rules ask for it
-pub record ReadyClient (call : FromClient) (datagram reply : List ℕ) : Type 0 where
-  pub room : 1536 ≤ length reply
-  pub soon : call .time ≤ 2 ^ 40
-  pub user : call .user ≤ 32
-
-pub record ReadyPeer (call : FromPeer) (datagram reply : List ℕ) : Type 0 where
-  pub room : 1536 ≤ length reply
-  pub short : length datagram ≤ 1500
-
-abbrev pub Ready : Call → List ℕ → List ℕ → Type 0
-Ready (Client call) datagram reply = ReadyClient call datagram reply
-Ready (Peer call) datagram reply = ReadyPeer call datagram reply
-
-abbrev pub UserFits : Call → Type 0
-UserFits (Client call) = call .user ≤ 32
-UserFits (Peer call) = Unit
-
--- ---- What is asked, and the look over the slots that it needs
-
--- a peer's datagram asks nothing of the relay
-abbrev pub askedFor : Call → List ℕ → Asked
-askedFor (Client call) s = askedBy s
-askedFor (Peer call) s = Asked.Nothing
-
--- whether an allocation is to be made
-abbrev pub allocates : Asked → Bool
-allocates Asked.Allocate = true
-allocates Asked.Refresh = false
-allocates Asked.CreatePermission = false
-allocates Asked.ChannelBind = false
-allocates Asked.Send = false
-allocates Asked.ChannelData = false
-allocates Asked.Nothing = false
-
-abbrev pub wantedBy : Call → Asked → Wanted
-wantedBy (Client call) asked = record { time = call .time; key = Key.Client (call .«five_tuple»); room = allocates asked; user = call .user }
-wantedBy (Peer call) asked = record { time = call .time; key = Key.Port (call .port); room = false; user = 0 }
-
-abbrev pub saw : Asked → Survey → Seen
-saw asked survey = record { asked = asked; survey = survey }
+use Rattle.decisions.specs.Inner.{askedFor, wantedBy, placeIn}
 
 -- what the look over the slots says for a call
 pub record Saw (slots : List Slot) (call : Call) (datagram : List ℕ) (seen : Seen) : Type 0 where
   pub asked : seen .asked ≡ askedFor call datagram
   pub looked : Looked slots (wantedBy call (seen .asked)) (seen .survey)
 
--- the slot that is written
-abbrev pub placeFor : Asked → Survey → Found
-placeFor asked survey = pick (allocates asked) (survey .free) (survey .own)
-
-abbrev pub unwritten : Outcome → Slot → Answer
-unwritten outcome slot = record { outcome = outcome; writes = false; slot = slot }
-
-abbrev pub placeIn : Seen → ℕ
-placeIn seen = placeOf (placeFor (seen .asked) (seen .survey))
-
 -- the answer's slot is put at its place, where it writes one
 pub record WroteBack (seen : Seen) (answer : Answer) (outcome : Outcome) (slots slots′ : List Slot) : Type 0 where
   pub outcome-is : outcome ≡ answer .outcome
   pub slots-are : slots′ ≡ pick (answer .writes) (set slots (placeIn seen) (answer .slot)) slots
-
--- what a function says that decides by the look over the slots: it is so of every table that this is a look over
-abbrev pub Answering : Call → Asked → (List Slot → Change) → Survey → Slot → (reply reply′ : List ℕ) → Answer → Type 0
-Answering call asked change survey own reply reply′ answer =
-    (slots : List Slot) → Looked slots (wantedBy call asked) survey → own ≡ atOr freshSlot (survey .own) slots
-    → Answers (change slots) own reply reply′ answer
 
 -- what is done to the slots where the call is accepted, whatever is kept beside them
 pub record Answered (slots : List Slot) (call : Call) (datagram : List ℕ) (outcome : Outcome) (slots′ : List Slot) (reply reply′ : List ℕ) : Type 0 where

@@ -4,8 +4,8 @@ use mathlib.Core.Path.{_≡_}
 use mathlib.Core.List.{List}
 use Rattle.rules.specs.declared.answer.Outcome.{Outcome}
 use Rattle.rules.specs.declared.answer.Outcome.the-variants.{Refused}
-use Rattle.rules.specs.Act as rules
-use Rattle.rules.specs.Act.{Out}
+use Rattle.rules.specs.Change as rules
+use Rattle.rules.specs.Change.{Out}
 use Rattle.relay.specs.State.{State}
 
 -- what a call does: it is refused with a number, or gives something out and leaves this state

@@ -2,8 +2,8 @@
 use Prim.Native.Nat.{ℕ}
 use mathlib.Core.List.{List}
 use lib.ListN.{replicate}
-use Rattle.table.specs.declared.Slot.{Slot}
-use Rattle.table.specs.Table.{freshSlot}
+use Rattle.slot.specs.declared.Slot.{Slot}
+use Rattle.slot.specs.Slot.{freshSlot}
 use Rattle.relay.specs.declared.state.Bookkeeping.{Bookkeeping}
 
 pub record State : Type 0 where

@@ -1,84 +1,18 @@
 -- One step of the relay: from the state, a call, its datagram and its reply buffer, what it does. Every entry's promise is stated by it.
-use Prim.Native.Nat.{ℕ, zero, suc, _+_}
-use mathlib.Core.Bool.{Bool}
-use mathlib.Core.List.{List, [], _∷_}
+use Prim.Native.Nat.{ℕ}
+use mathlib.Core.List.{List}
 use lib.Dec.{eqb}
 use lib.ListN.{length, set}
 use Rattle.choice.specs.Choice.{pick}
-use Rattle.table.specs.declared.Slot.{Slot}
-use Rattle.table.specs.declared.Found.{Found}
-use Rattle.table.specs.declared.Found.the-variants.{At, Nothing}
-use Rattle.table.specs.Search.{find, has, atOr}
-use Rattle.table.specs.Table.{freshSlot, holds, holdsUser, holdsPort}
-use Rattle.slots.specs.Slots.{inSlot, count, lapsed}
+use Rattle.slot.specs.declared.Found.{Found}
+use Rattle.slot.specs.declared.Found.the-variants.{At, Nothing}
 use Rattle.rules.specs.declared.answer.Outcome.{Outcome}
-use Rattle.rules.specs.declared.client.Asked.{Asked}
-use Rattle.rules.specs.declared.client.Asked.the-variants as Asked
-use Rattle.rules.specs.declared.requests.ClientCall.{ClientCall}
-use Rattle.rules.specs.declared.requests.Survey.{Survey}
-use Rattle.rules.specs.Act.{Change, keep, write, dropped, outOf}
-use Rattle.rules.specs.Requests.{allocate, refresh, createPermission, channelBind, portFor}
-use Rattle.rules.specs.Data.{send, channelled, fromPeer}
-use Rattle.rules.specs.Client.{askedBy}
-use Rattle.relay.specs.declared.incoming.Call.{Call}
-use Rattle.relay.specs.declared.incoming.Call.the-variants.{Client, Peer}
-use Rattle.relay.specs.declared.incoming.FromClient.{FromClient}
-use Rattle.relay.specs.declared.incoming.FromPeer.{FromPeer}
+use Rattle.rules.specs.Change.{Change, keep, write, outOf}
+use Rattle.interface.specs.declared.incoming.Call.{Call}
 use Rattle.relay.specs.State.{State, clockOf, atTime, withSlots}
 use Rattle.relay.specs.Outcomes.{Act, refuse, accept, Does}
-use Rattle.relay.specs.Refusals.{timeOf, lengths, refusal}
-
--- ---- What is asked of the whole table
-
--- of each of the 128 ports, from k on, whether a live slot holds it
-unfoldable pub portsHeld : ℕ → List Slot → ℕ → ℕ → List Bool
-portsHeld time slots k zero = []
-portsHeld time slots k (suc n) = has (find (inSlot (holdsPort time (49152 + k))) slots) ∷ portsHeld time slots (suc k) n
-
--- a client's call as the rules take it
-abbrev pub asRules : FromClient → ClientCall
-asRules call = record { time = call .time; user = call .user; relay = call .relay; «five_tuple» = call .«five_tuple» }
-
--- what Allocate asks
-abbrev pub surveyOf : FromClient → List Slot → Survey
-surveyOf call slots = record {
-  own = has (find (inSlot (holds (call .time) (call .«five_tuple»))) slots);
-  held = count (inSlot (holdsUser (call .time) (call .user))) slots;
-  free = has (find (inSlot (lapsed (call .time))) slots);
-  port = portFor (portsHeld (call .time) slots 0 128) (call .start);
-}
-
--- ---- What is decided: the slot that a call is about, and what becomes of it
-
-pub record Decision : Type 0 where
-  pub place : Found
-  pub change : Change
-
--- about the slot that was found: the rule is told whether there is one, and the slot, or a fresh one
-abbrev pub aboutFound : List Slot → Found → (Bool → Slot → Change) → Decision
-aboutFound slots found rule = record { place = found; change = rule (has found) (atOr freshSlot found slots) }
-
--- the live slot of the 5-tuple
-abbrev pub aboutOwn : FromClient → List Slot → (Bool → Slot → Change) → Decision
-aboutOwn call slots rule = aboutFound slots (find (inSlot (holds (call .time) (call .«five_tuple»))) slots) rule
-
--- Allocate is about 'the lowest such slot' that isn't live, everything else about the caller's own
-abbrev pub onAsked : FromClient → List ℕ → List Slot → Asked → Decision
-onAsked call s slots Asked.Allocate =
-    record { place = find (inSlot (lapsed (call .time))) slots; change = allocate (asRules call) s (surveyOf call slots) }
-onAsked call s slots Asked.Refresh = aboutOwn call slots (refresh (asRules call) s)
-onAsked call s slots Asked.CreatePermission = aboutOwn call slots (createPermission (asRules call) s)
-onAsked call s slots Asked.ChannelBind = aboutOwn call slots (channelBind (asRules call) s)
-onAsked call s slots Asked.Send = aboutOwn call slots (λ own slot. keep (send (asRules call) s own slot))
-onAsked call s slots Asked.ChannelData = aboutOwn call slots (λ own slot. keep (channelled (asRules call) s own slot))
-onAsked call s slots Asked.Nothing = record { place = Nothing; change = keep dropped }
-
--- a client's datagram by what it asks; a peer's is about the live slot with the relay port
-unfoldable pub decided : Call → List ℕ → List Slot → Decision
-decided (Client call) s slots = onAsked call s slots (askedBy s)
-decided (Peer call) s slots =
-    aboutFound slots (find (inSlot (holdsPort (call .time) (call .port))) slots)
-    (λ own slot. keep (fromPeer (call .time) (call .source) (call .id) s own slot))
+use Rattle.interface.specs.Refusals.{timeOf, lengths, refusal}
+use Rattle.decisions.specs.Decisions.{decided}
 
 -- ---- The act
 

@@ -1,43 +1,44 @@
 // The relay's public entries, over the sixty-four slots lent as a slice of records, what the relay keeps beside them as one lent struct,
 // and the datagram and the reply as lent bytes. Every decision is by value, in the modules and in the crates below; here the slots are
 // looked over, one is read, and it is written back where it changed.
-use deciding::Seen;
-use deciding::answer_call;
-use deciding::asked_for;
-use deciding::outcome_of;
-use deciding::place_for;
-use deciding::slot_of;
-use deciding::survey_of;
-use deciding::wanted_by;
-use deciding::with_survey;
-use deciding::writes_none;
-use incoming::Call;
-use incoming::time_of;
-use refusals::lengths_of;
-use refusals::refusal;
+use decisions::Seen;
+use decisions::answer_call;
+use decisions::answer_unfound;
+use decisions::asked_for;
+use decisions::finds_none;
+use decisions::is_data;
+use decisions::outcome_of;
+use decisions::own_place;
+use decisions::pass_data;
+use decisions::place_for;
+use decisions::slot_of;
+use decisions::wanted_by;
+use decisions::with_survey;
+use decisions::writes_none;
+use interface::incoming::Call;
+use interface::incoming::time_of;
+use interface::refusals::lengths_of;
+use interface::refusals::refusal;
 use rules::answer::Answer;
 use rules::answer::Outcome;
-use slots::look;
-use slots::own_slot;
-use slots::put_slot;
+use slot::Slot;
 use state::Bookkeeping;
 use state::set_clock;
-use table::Slot;
+use table::look;
+use table::put_slot;
+use table::slot_at;
 ghost use mathlib.Core.Path.{_≡_};
-ghost use mathlib.Core.Bool.{true};
+ghost use mathlib.Core.Bool.{true, false};
 ghost use Prim.Native.Nat.{_<_};
 ghost use lib.ListN.{length};
-ghost use Rattle.table.specs.Search.{atOr};
-ghost use Rattle.table.specs.Table.{freshSlot};
-ghost use Rattle.slots.specs.Slots.{Within};
+ghost use Rattle.slot.specs.Search.{atOr, has};
+ghost use Rattle.slot.specs.Slot.{freshSlot};
+ghost use Rattle.table.specs.Inner.{Within};
 ghost use Rattle.relay.specs.State.{state};
 ghost use Rattle.relay.specs.Step.{Stepped};
-ghost use Rattle.relay.specs.Inner.{Ready, UserFits, Saw, placeIn, WroteBack, Answered};
+ghost use Rattle.decisions.specs.Inner.{Ready, UserFits, isData, placeIn};
+ghost use Rattle.relay.specs.Inner.{Saw, WroteBack, Answered};
 
-pub mod deciding;
-pub mod incoming;
-pub mod refusals;
-pub mod sending;
 pub mod state;
 
 // What is asked, and one look over the slots.
@@ -50,12 +51,12 @@ fn look_for(slots: &[Slot], datagram: &[u8], call: Call) -> Seen
     with_survey(what, survey)
 }
 
-// The slot that was found, or a fresh one where none was.
+// The slot that was found.
 fn read_found(slots: &[Slot], found: Seen) -> Slot
-    requires { ⌜ Within (found .survey .own) (length (now slots)) ⌝ }
+    requires { ⌜ (has (found .survey .own) ≡ true) × Within (found .survey .own) (length (now slots)) ⌝ }
     ensures { λ r. ⌜ r ≡ atOr freshSlot (found .survey .own) (now (slots .entry)) ⌝ }
 {
-    own_slot(slots, survey_of(found))
+    slot_at(slots, own_place(found))
 }
 
 // The slot is written back where it changed.
@@ -70,7 +71,23 @@ fn write_found(slots: &mut [Slot], found: Seen, answer: Answer) -> Outcome
     outcome_of(answer)
 }
 
-// What is decided by value about the slot that was found.
+// A request about the slot that was found.
+fn answer_request(
+    slots: &mut [Slot],
+    call: Call,
+    found: Seen,
+    own: Slot,
+    datagram: &[u8],
+    reply: &mut [u8],
+) -> Outcome
+    requires { ⌜ (Ready call (now datagram) (now reply) × Saw (now slots) call (now datagram) found) × ((own ≡ atOr freshSlot (found .survey .own) (now slots)) × (isData (found .asked) ≡ false)) ⌝ }
+    ensures { λ r. ⌜ Answered (now (slots .entry)) call (now (datagram .entry)) r (now (slots .exit)) (now (reply .entry)) (now (reply .exit)) ⌝ }
+{
+    let answer = answer_call(datagram, reply, call, found, own);
+    write_found(slots, found, answer)
+}
+
+// What is decided by value about the slot that was found. Data writes none.
 fn answer_found(
     slots: &mut [Slot],
     call: Call,
@@ -82,8 +99,57 @@ fn answer_found(
     requires { ⌜ (Ready call (now datagram) (now reply) × Saw (now slots) call (now datagram) found) × (own ≡ atOr freshSlot (found .survey .own) (now slots)) ⌝ }
     ensures { λ r. ⌜ Answered (now (slots .entry)) call (now (datagram .entry)) r (now (slots .exit)) (now (reply .entry)) (now (reply .exit)) ⌝ }
 {
-    let answer = answer_call(datagram, reply, call, found, own);
+    if is_data(found) {
+        return pass_data(datagram, reply, call, found, own);
+    }
+    answer_request(slots, call, found, own, datagram, reply)
+}
+
+// A call for which a slot was found: it is read.
+fn answer_own(
+    slots: &mut [Slot],
+    call: Call,
+    found: Seen,
+    datagram: &[u8],
+    reply: &mut [u8],
+) -> Outcome
+    requires { ⌜ (Ready call (now datagram) (now reply) × Saw (now slots) call (now datagram) found) × (has (found .survey .own) ≡ true) ⌝ }
+    ensures { λ r. ⌜ Answered (now (slots .entry)) call (now (datagram .entry)) r (now (slots .exit)) (now (reply .entry)) (now (reply .exit)) ⌝ }
+{
+    let own = read_found(slots, found);
+    answer_found(slots, call, found, own, datagram, reply)
+}
+
+// A call for which none was found: there is none to read.
+fn answer_none(
+    slots: &mut [Slot],
+    call: Call,
+    found: Seen,
+    datagram: &[u8],
+    reply: &mut [u8],
+) -> Outcome
+    requires { ⌜ (Ready call (now datagram) (now reply) × Saw (now slots) call (now datagram) found) × (has (found .survey .own) ≡ false) ⌝ }
+    ensures { λ r. ⌜ Answered (now (slots .entry)) call (now (datagram .entry)) r (now (slots .exit)) (now (reply .entry)) (now (reply .exit)) ⌝ }
+{
+    let answer = answer_unfound(datagram, reply, call, found);
     write_found(slots, found, answer)
+}
+
+// What becomes of what is asked, by whether a slot was found.
+fn answer_seen(
+    slots: &mut [Slot],
+    call: Call,
+    found: Seen,
+    datagram: &[u8],
+    reply: &mut [u8],
+) -> Outcome
+    requires { ⌜ Ready call (now datagram) (now reply) × Saw (now slots) call (now datagram) found ⌝ }
+    ensures { λ r. ⌜ Answered (now (slots .entry)) call (now (datagram .entry)) r (now (slots .exit)) (now (reply .entry)) (now (reply .exit)) ⌝ }
+{
+    if finds_none(found) {
+        return answer_none(slots, call, found, datagram, reply);
+    }
+    answer_own(slots, call, found, datagram, reply)
 }
 
 // A call that is not refused: what is asked and found, and what becomes of it.
@@ -92,8 +158,7 @@ fn accept_call(slots: &mut [Slot], call: Call, datagram: &[u8], reply: &mut [u8]
     ensures { λ r. ⌜ Answered (now (slots .entry)) call (now (datagram .entry)) r (now (slots .exit)) (now (reply .entry)) (now (reply .exit)) ⌝ }
 {
     let found = look_for(slots, datagram, call);
-    let own = read_found(slots, found);
-    answer_found(slots, call, found, own, datagram, reply)
+    answer_seen(slots, call, found, datagram, reply)
 }
 
 // A client's or a peer's datagram.

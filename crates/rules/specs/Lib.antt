@@ -1,5 +1,4 @@
-pub mod Act
+pub mod Change
 pub mod Values
 pub mod Requests
-pub mod Data
-pub mod Client
+pub mod Inner

@@ -1,5 +1,5 @@
--- The words in which the checks speak of what a request carries, and the lifetime granted.
-use Prim.Native.Nat.{ℕ, min, max}
+-- The words in which the checks speak of what a request carries.
+use Prim.Native.Nat.{ℕ}
 use mathlib.Core.Bool.{Bool, true, false, not}
 use mathlib.Core.List.{List, [], _∷_}
 use lib.Dec.{eqb}
@@ -13,8 +13,6 @@ use Rattle.stun.specs.Values.{numberValue}
 use Rattle.stun.specs.declared.values.AddressValue.{AddressValue}
 use Rattle.stun.specs.declared.values.NumberValue.{NumberValue}
 use Rattle.stun.specs.declared.values.NumberValue.the-variants.{Number, WrongLength, Absent}
-use Rattle.rules.specs.declared.values.PeerFault.{PeerFault}
-use Rattle.rules.specs.declared.values.PeerFault.the-variants.{Malformed, Ipv6}
 
 -- 'any unknown attribute'
 unfoldable pub anyUnknown : List ℕ → Bool
@@ -55,22 +53,10 @@ otherThan wanted WrongLength = false
 otherThan wanted Absent = false
 
 -- the number, or 0 where there is none
-abbrev pub numberOf : NumberValue → ℕ
-numberOf (Number n) = n
-numberOf WrongLength = 0
-numberOf Absent = 0
-
--- 'Lifetime granted: absent 600; else the smaller of the value and 3600, but not below 600.'
-abbrev pub granted : NumberValue → ℕ
-granted (Number seconds) = max 600 (min seconds 3600)
-granted WrongLength = 600
-granted Absent = 600
-
--- 'In Refresh, 0 gives 0.'
-abbrev pub grantedRefresh : NumberValue → ℕ
-grantedRefresh (Number seconds) = pick (eqb seconds 0) 0 (max 600 (min seconds 3600))
-grantedRefresh WrongLength = 600
-grantedRefresh Absent = 600
+abbrev pub numberGiven : NumberValue → ℕ
+numberGiven (Number n) = n
+numberGiven WrongLength = 0
+numberGiven Absent = 0
 
 abbrev pub isIpv6 : Address → Bool
 isIpv6 (V4 a) = false
@@ -94,8 +80,3 @@ malformedPeer v = not (v .«well_formed»)
 
 unfoldable pub ipv6Peer : AddressValue → Bool
 ipv6Peer v = isIpv6 (v .peer .address)
-
--- 'any malformed 400; any IPv6 443': what a peer address of CreatePermission is looked over for
-abbrev pub faulty : PeerFault → AddressValue → Bool
-faulty Malformed = malformedPeer
-faulty Ipv6 = ipv6Peer

@@ -1,16 +1,17 @@
 // What a call gives back, the ordered checks, and the error response.
 use address::FiveTuple;
-use address::Peer;
+use address::TransportAddress;
 use messages::put_error_response;
 use messages::put_unknown_response;
+use slot::Slot;
 use stun::kinds::Method;
 use stun::message::unknown_types;
 use stun::values::transaction_id;
-use table::Slot;
 ghost use mathlib.Core.Path.{_≡_};
 ghost use Prim.Native.Nat.{_≤_};
 ghost use lib.ListN.{length};
-ghost use Rattle.rules.specs.Act.{check, errorMessage, Answers, keep, toClient};
+ghost use Rattle.rules.specs.Change.{check, errorMessage, keep, toClient};
+ghost use Rattle.rules.specs.Inner.{Answers};
 
 pub enum Outcome {
     Refused(u8),
@@ -23,7 +24,7 @@ pub enum Outcome {
     // The len bytes of the datagram from start go from the relay port to the peer.
     ToPeer {
         port: u16,
-        peer: Peer,
+        peer: TransportAddress,
         start: usize,
         len: usize,
     },

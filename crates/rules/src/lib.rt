@@ -1,10 +1,5 @@
-// Document 01's requests and data rules, by value: from a lent datagram and what the searches over the table found, the outcome, the
-// slot as the call leaves it, and the reply. Which slot that is, and the search for it, is the relay's.
+// What all of document 01's rules share: what a call gives back, the words in which the checks speak of a request, and the checks of every
+// request. By value; which slot a call is about, and the search for it, is the relay's.
 pub mod answer;
-pub mod channels;
-pub mod client;
-pub mod data;
-pub mod permissions;
-pub mod ports;
 pub mod requests;
 pub mod values;

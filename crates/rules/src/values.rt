@@ -4,11 +4,11 @@ use stun::message::unknown_types;
 use stun::values::AddressValue;
 use stun::values::NumberValue;
 ghost use mathlib.Core.Path.{_≡_};
-ghost use Prim.Native.Nat.{min, max};
-ghost use Rattle.rules.specs.Values.{anyUnknown, missing, wrongLength, otherThan, numberOf, granted, grantedRefresh, isIpv6, ipv4Of, malformedPeer, ipv6Peer, faulty};
+ghost use Rattle.rules.specs.Values.{anyUnknown, missing, wrongLength, otherThan, numberGiven, isIpv6, ipv4Of, malformedPeer, ipv6Peer};
+ghost use Rattle.rules.specs.Inner.{faulty};
 
 // What CreatePermission looks each of its peer addresses over for.
-pub(crate) enum PeerFault {
+pub enum PeerFault {
     Malformed,
     Ipv6,
 }
@@ -50,53 +50,13 @@ pub fn other_than(wanted: u32, value: NumberValue) -> bool
     }
 }
 
-pub fn number_of(value: NumberValue) -> u32
-    ensures { λ r. ⌜ r ≡ numberOf value ⌝ }
+pub fn number_given(value: NumberValue) -> u32
+    ensures { λ r. ⌜ r ≡ numberGiven value ⌝ }
 {
     match value {
         NumberValue::Number(n) => n,
         NumberValue::WrongLength => 0,
         NumberValue::Absent => 0,
-    }
-}
-
-// At least 600 seconds, and at most 3600.
-fn clamped(seconds: u32) -> u32
-    ensures { λ r. ⌜ r ≡ max 600 (min seconds 3600) ⌝ }
-{
-    if seconds < 600 {
-        return 600;
-    }
-    if 3600 < seconds {
-        return 3600;
-    }
-    seconds
-}
-
-// The lifetime that an Allocate is granted.
-pub fn granted(asked: NumberValue) -> u32
-    ensures { λ r. ⌜ r ≡ granted asked ⌝ }
-{
-    match asked {
-        NumberValue::Number(seconds) => clamped(seconds),
-        NumberValue::WrongLength => 600,
-        NumberValue::Absent => 600,
-    }
-}
-
-// The lifetime that a Refresh is granted.
-pub fn granted_refresh(asked: NumberValue) -> u32
-    ensures { λ r. ⌜ r ≡ grantedRefresh asked ⌝ }
-{
-    match asked {
-        NumberValue::Number(seconds) => {
-            if seconds == 0 {
-                return 0;
-            }
-            clamped(seconds)
-        }
-        NumberValue::WrongLength => 600,
-        NumberValue::Absent => 600,
     }
 }
 
@@ -132,7 +92,7 @@ pub fn ipv6_peer(value: AddressValue) -> bool
     is_ipv6(address)
 }
 
-pub(crate) fn is_faulty(fault: PeerFault, value: AddressValue) -> bool
+pub fn is_faulty(fault: PeerFault, value: AddressValue) -> bool
     ensures { λ r. ⌜ r ≡ faulty fault value ⌝ }
 {
     match fault {

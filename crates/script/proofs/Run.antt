@@ -11,16 +11,18 @@ use Rattle.choice.specs.Choice.{pick, both}
 use Rattle.wire.specs.Wire.{partOf}
 use Rattle.rules.specs.declared.answer.Outcome.{Outcome}
 use Rattle.rules.specs.declared.answer.Outcome.the-variants.{Refused, Dropped, ToClient, ToPeer}
-use Rattle.messages.specs.Messages.{Sent}
-use Rattle.relay.specs.declared.incoming.Call.{Call}
+use Rattle.messages.specs.Inner.{Sent}
+use Rattle.interface.specs.declared.incoming.Call.{Call}
 use Rattle.relay.specs.State.{State}
 use Rattle.relay.specs.Outcomes.{stateAfter}
 use Rattle.relay.specs.Step.{act, Stepped}
-use Rattle.relay.specs.Sending.{sent}
-use Rattle.script.specs.declared.lines.ReadLine.{ReadLine}
+use Rattle.interface.specs.Sending.{sent}
+use Rattle.lines.specs.declared.ReadLine.{ReadLine}
 use Rattle.script.specs.Answers.{answerOf, badAnswer}
-use Rattle.script.specs.Lines.{Line, bad, asks, lineOf, isBad, callIn, lengthIn, Reads}
-use Rattle.script.specs.Run.{isToPeer, shown, Called, answerTo, stateTo, lineIn, Runs}
+use Rattle.lines.specs.Lines.{Line, bad, asks, lineOf}
+use Rattle.lines.specs.Inner.{isBad, callIn, lengthIn, Reads}
+use Rattle.script.specs.Inner.{isToPeer, Called}
+use Rattle.script.specs.Run.{shown, answerTo, stateTo, lineIn, Runs}
 
 -- ---- What an outcome sends is a part of one of the two buffers
 

@@ -7,11 +7,11 @@ use native.Mathlib.Numerals.{add-one}
 use lib.ListN.{length, getD, drop, set, length-append}
 use lib.Seq.{drop-cons, set-at}
 use borrow.Rule.Slice.PartMut.{midOf, putMid}
-use Rattle.address.specs.declared.Peer.{Peer}
-use Rattle.wire.specs.Wire.{Wrote}
+use Rattle.address.specs.declared.TransportAddress.{TransportAddress}
+use Rattle.wire.specs.Inner.{Wrote}
 use Rattle.wire.proofs.Laws.{wrote-then}
-use Rattle.messages.specs.Messages.{Sent}
-use Rattle.text.specs.Text.{line, decimal, addressText, hexBytes}
+use Rattle.messages.specs.Inner.{Sent}
+use Rattle.text.specs.Text.{lineText, decimal, addressText, hexBytes}
 use Rattle.script.specs.Answers.{sentTo}
 
 -- after A, one byte was stored
@@ -30,14 +30,14 @@ pub sent-then : {A B d d1 y : List ℕ} {m n : ℕ} → Sent A d d1 m → Sent B
 sent-then u v = record { wrote = wrote-then (u .wrote) (sym (u .size)) (v .wrote); size = rw (length-append, u .size, v .size) }
 
 -- a line's fields, one by one
-pub line-sent : (peer : Peer) (sent : List ℕ) {d l : List ℕ} {n : ℕ}
+pub line-sent : (peer : TransportAddress) (sent : List ℕ) {d l : List ℕ} {n : ℕ}
     → Sent (((addressText (peer .address) ++ 9 ∷ []) ++ (decimal (peer .port) ++ 9 ∷ [])) ++ (hexBytes sent ++ 10 ∷ [])) d l n
-    → Sent (line (sentTo peer sent)) d l n
-unfolding line sentTo
+    → Sent (lineText (sentTo peer sent)) d l n
+unfolding lineText sentTo
 line-sent peer sent w = simp append-assoc at w
 
-pub line-to-peer : (port : ℕ) (peer : Peer) (sent : List ℕ) {d l : List ℕ} {n : ℕ}
-    → Sent (((70 ∷ 9 ∷ []) ++ (decimal port ++ 9 ∷ [])) ++ line (sentTo peer sent)) d l n
-    → Sent (line ((70 ∷ []) ∷ decimal port ∷ sentTo peer sent)) d l n
-unfolding line sentTo
+pub line-to-peer : (port : ℕ) (peer : TransportAddress) (sent : List ℕ) {d l : List ℕ} {n : ℕ}
+    → Sent (((70 ∷ 9 ∷ []) ++ (decimal port ++ 9 ∷ [])) ++ lineText (sentTo peer sent)) d l n
+    → Sent (lineText ((70 ∷ []) ∷ decimal port ∷ sentTo peer sent)) d l n
+unfolding lineText sentTo
 line-to-peer port peer sent w = simp append-assoc at w

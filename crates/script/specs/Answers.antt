@@ -2,22 +2,22 @@
 -- port, hex; `E` where a line isn't of these forms'.
 use Prim.Native.Nat.{ℕ}
 use mathlib.Core.List.{List, [], _∷_}
-use Rattle.address.specs.declared.Peer.{Peer}
+use Rattle.address.specs.declared.TransportAddress.{TransportAddress}
 use Rattle.rules.specs.declared.answer.Outcome.{Outcome}
 use Rattle.rules.specs.declared.answer.Outcome.the-variants.{Refused, Dropped, ToClient, ToPeer}
-use Rattle.text.specs.Text.{line, decimal, addressText, hexBytes}
+use Rattle.text.specs.Text.{lineText, decimal, addressText, hexBytes}
 
 -- address, port, hex: what goes to a client or a peer
-unfoldable pub sentTo : Peer → List ℕ → List (List ℕ)
+unfoldable pub sentTo : TransportAddress → List ℕ → List (List ℕ)
 sentTo peer sent = addressText (peer .address) ∷ decimal (peer .port) ∷ hexBytes sent ∷ []
 
 -- the line of an outcome that sends these bytes
 unfoldable pub answerOf : Outcome → List ℕ → List ℕ
-answerOf (Refused number) sent = line ((82 ∷ []) ∷ decimal number ∷ [])
-answerOf Dropped sent = line ((68 ∷ []) ∷ [])
-answerOf (ToClient fiveTuple len) sent = line ((83 ∷ []) ∷ sentTo (fiveTuple .client) sent)
-answerOf (ToPeer port peer start len) sent = line ((70 ∷ []) ∷ decimal port ∷ sentTo peer sent)
+answerOf (Refused number) sent = lineText ((82 ∷ []) ∷ decimal number ∷ [])
+answerOf Dropped sent = lineText ((68 ∷ []) ∷ [])
+answerOf (ToClient fiveTuple len) sent = lineText ((83 ∷ []) ∷ sentTo (fiveTuple .client) sent)
+answerOf (ToPeer port peer start len) sent = lineText ((70 ∷ []) ∷ decimal port ∷ sentTo peer sent)
 
 -- the line of a line of another form
 unfoldable pub badAnswer : List ℕ
-badAnswer = line ((69 ∷ []) ∷ [])
+badAnswer = lineText ((69 ∷ []) ∷ [])

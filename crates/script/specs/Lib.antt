@@ -1,4 +1,3 @@
 pub mod Answers
-pub mod Fields
-pub mod Lines
 pub mod Run
+pub mod Inner

@@ -1,38 +1,21 @@
 -- One line of the call program: what it is answered with, and the state after it.
 use Prim.Native.Nat.{ℕ, _-_}
 use mathlib.Core.Path.{_≡_}
-use mathlib.Core.Bool.{Bool, true, false}
 use mathlib.Core.List.{List, [], _++_}
 use lib.Dec.{leb, ltb}
 use lib.ListN.{length, take, drop, replicate}
 use Rattle.choice.specs.Choice.{pick, both}
-use Rattle.messages.specs.Messages.{Sent}
-use Rattle.rules.specs.declared.answer.Outcome.{Outcome}
-use Rattle.rules.specs.declared.answer.Outcome.the-variants.{Refused, Dropped, ToClient, ToPeer}
-use Rattle.relay.specs.declared.incoming.Call.{Call}
+use Rattle.interface.specs.declared.incoming.Call.{Call}
 use Rattle.relay.specs.State.{State}
 use Rattle.relay.specs.Outcomes.{Act, outcomeOf, replyAfter, stateAfter}
 use Rattle.relay.specs.Step.{act}
-use Rattle.relay.specs.Sending.{sent}
+use Rattle.interface.specs.Sending.{sent}
 use Rattle.script.specs.Answers.{answerOf, badAnswer}
-use Rattle.script.specs.Lines.{Line, bad, asks, lineOf}
-
--- ---- A call
-
-abbrev pub isToPeer : Outcome → Bool
-isToPeer (Refused number) = false
-isToPeer Dropped = false
-isToPeer (ToClient fiveTuple len) = false
-isToPeer (ToPeer port peer start len) = true
+use Rattle.lines.specs.Lines.{Line, bad, asks}
 
 -- what a call that did this is answered with
 abbrev pub shown : Act → List ℕ → List ℕ → List ℕ
 shown done datagram reply = answerOf (outcomeOf done) (sent (outcomeOf done) datagram (replyAfter reply done))
-
-pub record Called (before : State) (call : Call) (datagram : List ℕ) (after : State) (reply reply′ output output′ : List ℕ) (r : ℕ) : Type 0 where
-  pub answered : Sent (shown (act before call datagram (length reply)) datagram reply) output output′ r
-  pub state-is : after ≡ stateAfter before (act before call datagram (length reply))
-  pub reply-is : reply′ ≡ replyAfter reply (act before call datagram (length reply))
 
 -- ---- A line
 

@@ -1,7 +1,7 @@
 // The lines that the call program writes. Each writer says its exact bytes (specs/Answers.antt) and how many, and leaves the rest of the
 // output as it was.
 use address::Address;
-use address::Peer;
+use address::TransportAddress;
 use rules::answer::Outcome;
 use text::put_decimal;
 use text::put_hex_bytes;
@@ -9,9 +9,9 @@ ghost use mathlib.Core.Path.{_≡_};
 ghost use mathlib.Core.List.{[], _∷_, _++_};
 ghost use Prim.Native.Nat.{_≤_};
 ghost use lib.ListN.{length};
-ghost use Rattle.wire.specs.Wire.{Wrote};
-ghost use Rattle.messages.specs.Messages.{Sent};
-ghost use Rattle.text.specs.Text.{line, decimal, addressText, hexBytes};
+ghost use Rattle.wire.specs.Inner.{Wrote};
+ghost use Rattle.messages.specs.Inner.{Sent};
+ghost use Rattle.text.specs.Text.{lineText, decimal, addressText, hexBytes};
 ghost use Rattle.script.specs.Answers.{sentTo, answerOf, badAnswer};
 
 const TAB: u8 = 9;
@@ -59,9 +59,9 @@ fn put_hex(out: &mut [u8], sent: &[u8]) -> usize
 }
 
 // The rest of a line, from the address to which the bytes go.
-fn put_sent(out: &mut [u8], peer: Peer, sent: &[u8]) -> usize
+fn put_sent(out: &mut [u8], peer: TransportAddress, sent: &[u8]) -> usize
     requires { ⌜ (length (now sent) ≤ 1600) × (4000 ≤ length (now out)) ⌝ }
-    ensures { λ r. ⌜ (Sent (line (sentTo peer (now (sent .entry)))) (now (out .entry)) (now (out .exit)) r) × (r ≤ 4000) ⌝ }
+    ensures { λ r. ⌜ (Sent (lineText (sentTo peer (now (sent .entry)))) (now (out .entry)) (now (out .exit)) r) × (r ≤ 4000) ⌝ }
 {
     let address = peer.address;
     let port_at = put_address(out, address);
@@ -69,9 +69,9 @@ fn put_sent(out: &mut [u8], peer: Peer, sent: &[u8]) -> usize
     hex_at + put_hex(&mut out[hex_at..], sent)
 }
 
-fn put_to_peer(out: &mut [u8], port: u16, peer: Peer, sent: &[u8]) -> usize
+fn put_to_peer(out: &mut [u8], port: u16, peer: TransportAddress, sent: &[u8]) -> usize
     requires { ⌜ (length (now sent) ≤ 1600) × (4096 ≤ length (now out)) ⌝ }
-    ensures { λ r. ⌜ Sent (line ((70 ∷ []) ∷ decimal port ∷ sentTo peer (now (sent .entry)))) (now (out .entry)) (now (out .exit)) r ⌝ }
+    ensures { λ r. ⌜ Sent (lineText ((70 ∷ []) ∷ decimal port ∷ sentTo peer (now (sent .entry)))) (now (out .entry)) (now (out .exit)) r ⌝ }
 {
     put_letter(out, 70, TAB);
     let peer_at = 2 + put_number(&mut out[2..], port as u64, TAB);
@@ -79,7 +79,7 @@ fn put_to_peer(out: &mut [u8], port: u16, peer: Peer, sent: &[u8]) -> usize
 }
 
 // The line of an outcome that sends these bytes; how many bytes it has.
-pub fn put_answer(output: &mut [u8], outcome: Outcome, sent: &[u8]) -> usize
+pub(crate) fn put_answer(output: &mut [u8], outcome: Outcome, sent: &[u8]) -> usize
     requires { ⌜ (length (now sent) ≤ 1600) × (4096 ≤ length (now output)) ⌝ }
     ensures { λ r. ⌜ Sent (answerOf outcome (now (sent .entry))) (now (output .entry)) (now (output .exit)) r ⌝ }
 {
@@ -107,7 +107,7 @@ pub fn put_answer(output: &mut [u8], outcome: Outcome, sent: &[u8]) -> usize
 }
 
 // The line of a line of another form.
-pub fn put_bad(output: &mut [u8]) -> usize
+pub(crate) fn put_bad(output: &mut [u8]) -> usize
     requires { ⌜ 4096 ≤ length (now output) ⌝ }
     ensures { λ r. ⌜ Sent badAnswer (now (output .entry)) (now (output .exit)) r ⌝ }
 {

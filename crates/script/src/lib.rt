@@ -2,30 +2,30 @@
 // changes nothing.
 use answers::put_answer;
 use answers::put_bad;
+use interface::incoming::Call;
+use interface::sending::what_to_send;
 use lines::ReadLine;
 use lines::call_in;
 use lines::is_bad;
 use lines::length_in;
 use lines::read_line;
-use relay::incoming::Call;
 use relay::relay_datagram;
-use relay::sending::what_to_send;
 use relay::state::Bookkeeping;
 use rules::answer::Outcome;
-use table::Slot;
+use slot::Slot;
 ghost use mathlib.Core.Path.{_≡_};
 ghost use Prim.Native.Nat.{_≤_};
 ghost use lib.ListN.{length, take};
-ghost use Rattle.relay.specs.Sending.{sent};
+ghost use Rattle.interface.specs.Sending.{sent};
 ghost use Rattle.relay.specs.State.{state};
-ghost use Rattle.messages.specs.Messages.{Sent};
+ghost use Rattle.messages.specs.Inner.{Sent};
 ghost use Rattle.script.specs.Answers.{answerOf};
-ghost use Rattle.script.specs.Lines.{lineOf, Reads};
-ghost use Rattle.script.specs.Run.{isToPeer, lineIn, Called, Runs};
+ghost use Rattle.lines.specs.Lines.{lineOf};
+ghost use Rattle.lines.specs.Inner.{Reads};
+ghost use Rattle.script.specs.Inner.{isToPeer, Called};
+ghost use Rattle.script.specs.Run.{lineIn, Runs};
 
 pub mod answers;
-pub mod fields;
-pub mod lines;
 
 // The part of the input, or an empty one.
 fn line_in(input: &[u8], start: usize, end: usize) -> &[u8]

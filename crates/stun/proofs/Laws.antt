@@ -15,14 +15,15 @@ use Rattle.stun.specs.declared.message.Step.{Step}
 use Rattle.stun.specs.declared.message.Step.the-variants.{One, End, Short}
 use Rattle.stun.specs.declared.message.Reading.{Reading}
 use Rattle.stun.specs.declared.message.Reading.the-variants as Read
-use Rattle.stun.specs.declared.message.Found.{Found}
-use Rattle.stun.specs.declared.message.Found.the-variants.{Value, Absent}
+use Rattle.stun.specs.declared.message.ValuePlace.{ValuePlace}
+use Rattle.stun.specs.declared.message.ValuePlace.the-variants.{Value, Absent}
 use Rattle.stun.specs.declared.message.UnknownTypes.{UnknownTypes}
 use Rattle.stun.specs.declared.values.AddressValue.{AddressValue}
 use Rattle.stun.specs.declared.values.PeerReading.{PeerReading}
 use Rattle.stun.specs.declared.values.PeerReading.the-variants as Peer
-use Rattle.stun.specs.Message.{nextAt, attributeAt, stepAt, after, walkF, walk, isIntegrity, isUnknown, attributesFrom, attributes, firstOf, unknownNumbers, unknownTypes, unknowns, readFrom, Onward, Next}
-use Rattle.stun.specs.Values.{addressAt, peersOf, peersFrom, peersRead, PeerOnward, NextPeer}
+use Rattle.stun.specs.Message.{nextAt, attributeAt, stepAt, after, walkF, walk, isIntegrity, isUnknown, attributesFrom, attributes, firstOf, unknownNumbers, unknownTypes}
+use Rattle.stun.specs.Inner.{unknowns, readFrom, Onward, Next, peersRead, PeerOnward, NextPeer}
+use Rattle.stun.specs.Values.{addressAt, peersOf, peersFrom}
 
 -- ---- The walk: an attribute, and then the walk from the next position. Nothing else looks at the bound.
 module _ {R : Type 0} (one : Attribute → R → R) (fin bad : R) where

@@ -1,9 +1,8 @@
 -- Document 01's 'Reading a client's datagram': the sorting, the layout of a STUN message, and the attributes that are read.
-use Prim.Native.Nat.{ℕ, zero, suc, _+_, _-_, _*_, _/_, _%_, _≤_, _<_}
-use mathlib.Core.Path.{_≡_}
-use mathlib.Core.List.{List, [], _∷_, _++_}
+use Prim.Native.Nat.{ℕ, zero, suc, _+_, _-_, _*_, _/_, _%_}
+use mathlib.Core.List.{List, [], _∷_}
 use mathlib.Core.Bool.{Bool, true, false, _&&_}
-use lib.ListN.{length, getD, take, replicate}
+use lib.ListN.{length, getD, take}
 use lib.Dec.{leb, eqb}
 use Rattle.wire.specs.Wire.{num}
 use Rattle.choice.specs.Choice.{pick}
@@ -14,11 +13,8 @@ use Rattle.stun.specs.declared.channel_data.ChannelMessage.the-variants.
 use Rattle.stun.specs.declared.message.Attribute.{Attribute}
 use Rattle.stun.specs.declared.message.Step.{Step}
 use Rattle.stun.specs.declared.message.Step.the-variants.{One, End, Short}
-use Rattle.stun.specs.declared.message.Reading.{Reading}
-use Rattle.stun.specs.declared.message.Reading.the-variants as Read
-use Rattle.stun.specs.declared.message.Found.{Found}
-use Rattle.stun.specs.declared.message.Found.the-variants.{Value, Absent}
-use Rattle.stun.specs.declared.message.UnknownTypes.{UnknownTypes}
+use Rattle.stun.specs.declared.message.ValuePlace.{ValuePlace}
+use Rattle.stun.specs.declared.message.ValuePlace.the-variants.{Value, Absent}
 use Rattle.stun.specs.AttributeNumbers as attribute
 use Rattle.stun.specs.Kinds.{cookie, classOf, attributeKindOf, unknownKind}
 
@@ -85,7 +81,7 @@ abbrev pub attributes : List ℕ → List Attribute
 attributes s = attributesFrom s 20
 
 -- 'The first of a repeated attribute counts'
-unfoldable pub firstOf : ℕ → List Attribute → Found
+unfoldable pub firstOf : ℕ → List Attribute → ValuePlace
 firstOf number [] = Absent
 firstOf number (a ∷ rest) = pick (eqb (a .number) number) (Value (a .start) (a .len)) (firstOf number rest)
 
@@ -96,23 +92,3 @@ unknownNumbers (a ∷ rest) = pick (isUnknown (a .number)) (a .number ∷ unknow
 -- 'the first 16 unknown types as met, repeats kept'
 unfoldable pub unknownTypes : List ℕ → List ℕ
 unknownTypes s = take 16 (unknownNumbers (attributes s))
-
--- the same in an array of 16, with their number
-unfoldable pub unknowns : List ℕ → UnknownTypes
-unknowns s = record { types = unknownTypes s ++ replicate (16 - length (unknownTypes s)) 0; count = length (unknownTypes s) }
-
--- ---- What a step of the reading says
-
--- the attributes that are read from where it stands
-abbrev pub readFrom : List ℕ → Reading → List Attribute
-readFrom s (Read.One a next) = a ∷ attributesFrom s next
-readFrom s Read.Done = []
-
--- it goes on, and the attribute and its value lie within the message
-abbrev pub Onward : List ℕ → ℕ → Reading → Type 0
-Onward s at (Read.One a next) = (at < next) × (next ≤ length s) × (a .start + a .len ≤ length s)
-Onward s at Read.Done = Unit
-
-pub record Next (s : List ℕ) (at : ℕ) (r : Reading) : Type 0 where
-  pub is : attributesFrom s at ≡ readFrom s r
-  pub on : Onward s at r

@@ -1,9 +1,8 @@
 -- Document 01's 'Reading a client's datagram': the values of attributes.
-use Prim.Native.Nat.{ℕ, _+_, _<_, _≤_}
-use mathlib.Core.Path.{_≡_}
+use Prim.Native.Nat.{ℕ, _+_}
 use mathlib.Core.List.{List, [], _∷_}
-use mathlib.Core.Bool.{Bool, true, false}
-use lib.ListN.{length, getD}
+use mathlib.Core.Bool.{true, false}
+use lib.ListN.{getD}
 use lib.Dec.{eqb}
 use lib.Bits.{bitXor}
 use Rattle.wire.specs.Wire.{num}
@@ -12,13 +11,9 @@ use Rattle.address.specs.declared.Address.{Address}
 use Rattle.address.specs.declared.Address.the-variants.{V4, V6}
 use Rattle.address.specs.declared.TransactionId.{TransactionId}
 use Rattle.stun.specs.declared.message.Attribute.{Attribute}
-use Rattle.stun.specs.declared.message.Found.{Found}
-use Rattle.stun.specs.declared.message.Found.the-variants as Place
+use Rattle.stun.specs.declared.message.ValuePlace.{ValuePlace}
+use Rattle.stun.specs.declared.message.ValuePlace.the-variants as Place
 use Rattle.stun.specs.declared.values.AddressValue.{AddressValue}
-use Rattle.stun.specs.declared.values.PeerReading.{PeerReading}
-use Rattle.stun.specs.declared.values.PeerReading.the-variants.{One, Done}
-use Rattle.stun.specs.declared.values.Width.{Width}
-use Rattle.stun.specs.declared.values.Width.the-variants as Bytes
 use Rattle.stun.specs.declared.values.NumberValue.{NumberValue}
 use Rattle.stun.specs.declared.values.NumberValue.the-variants.{Number, WrongLength, Absent}
 use Rattle.stun.specs.AttributeNumbers as attribute
@@ -74,36 +69,12 @@ headOf (v ∷ rest) = v
 unfoldable pub firstPeer : List ℕ → AddressValue
 firstPeer s = headOf (peers s)
 
--- what the next peer address says of the list from a position on
-abbrev pub peersRead : List ℕ → PeerReading → List AddressValue
-peersRead s (One v next) = v ∷ peersFrom s next
-peersRead s Done = []
-
-abbrev pub PeerOnward : List ℕ → ℕ → PeerReading → Type 0
-PeerOnward s at (One v next) = (at < next) × (next ≤ length s)
-PeerOnward s at Done = Unit
-
-pub record NextPeer (s : List ℕ) (at : ℕ) (r : PeerReading) : Type 0 where
-  pub is : peersFrom s at ≡ peersRead s r
-  pub on : PeerOnward s at r
-
 -- ---- Numbers
 
-abbrev pub widthOf : Width → ℕ
-widthOf Bytes.One = 1
-widthOf Bytes.Two = 2
-widthOf Bytes.Four = 4
-
-abbrev pub numberIn : ℕ → List ℕ → Found → NumberValue
+abbrev pub numberIn : ℕ → List ℕ → ValuePlace → NumberValue
 numberIn width s (Place.Value start len) = pick (eqb len 4) (Number (num s start width)) WrongLength
 numberIn width s Place.Absent = Absent
 
 -- 'CHANNEL-NUMBER, LIFETIME, family and transport values are 4 bytes: the number is in the first 2, all 4, first 1, first 1; the rest is not checked.'
 unfoldable pub numberValue : ℕ → ℕ → List ℕ → NumberValue
 numberValue width number s = numberIn width s (firstOf number (attributes s))
-
--- the number that was read is below a bound
-abbrev pub Below : ℕ → NumberValue → Type 0
-Below bound (Number n) = n < bound
-Below bound WrongLength = Unit
-Below bound Absent = Unit

@@ -3,7 +3,8 @@ use crate::kinds::AttributeKind;
 use wire::u16_at;
 use wire::u32_at;
 ghost use mathlib.Core.Path.{_≡_};
-ghost use Rattle.stun.specs.Message.{stepAt, attributesFit, wellFormed, isIntegrity, isUnknown, Next, attributes, firstOf, unknowns};
+ghost use Rattle.stun.specs.Message.{stepAt, attributesFit, wellFormed, isIntegrity, isUnknown, attributes, firstOf};
+ghost use Rattle.stun.specs.Inner.{Next, unknowns};
 
 pub struct Attribute {
     pub number: u16,
@@ -124,13 +125,13 @@ pub fn next_attribute(s: &[u8], at: usize) -> Reading
 }
 
 // Where the value of an attribute lies.
-pub enum Found {
+pub enum ValuePlace {
     Value { start: usize, len: usize },
     Absent,
 }
 
 // The first attribute of a type.
-pub fn first_attribute(s: &[u8], number: u16) -> Found
+pub fn first_attribute(s: &[u8], number: u16) -> ValuePlace
     ensures { λ r. ⌜ r ≡ firstOf number (attributes (now (s .entry))) ⌝ }
 {
     let mut at = crate::HEADER;
@@ -139,7 +140,7 @@ pub fn first_attribute(s: &[u8], number: u16) -> Found
             Reading::One { attribute, next } => {
                 let n = attribute.number;
                 if n == number {
-                    return Found::Value {
+                    return ValuePlace::Value {
                         start: attribute.start,
                         len: attribute.len,
                     };
@@ -147,7 +148,7 @@ pub fn first_attribute(s: &[u8], number: u16) -> Found
                 at = next;
             }
             Reading::Done => {
-                return Found::Absent;
+                return ValuePlace::Absent;
             }
         }
     }

@@ -1,12 +1,12 @@
 // The values of a STUN message: its transaction id, its address values and its numbers of four bytes.
 use crate::kinds::AttributeKind;
-use crate::message::Found;
 use crate::message::Reading;
+use crate::message::ValuePlace;
 use crate::message::first_attribute;
 use crate::message::next_attribute;
 use address::Address;
-use address::Peer;
 use address::TransactionId;
+use address::TransportAddress;
 use wire::u8_at;
 use wire::u16_at;
 use wire::u32_at;
@@ -17,7 +17,8 @@ ghost use Prim.Native.Nat.{_+_, _^_, _<_, _≤_};
 ghost use lib.ListN.{length};
 ghost use Rattle.wire.specs.Wire.{num};
 ghost use Rattle.stun.specs.AttributeNumbers.{channelNumber, lifetime, requestedAddressFamily, requestedTransport};
-ghost use Rattle.stun.specs.Values.{transactionId, malformed, v4At, v6At, addressAt, NextPeer, firstPeer, widthOf, numberValue, Below};
+ghost use Rattle.stun.specs.Values.{transactionId, malformed, v4At, v6At, addressAt, firstPeer, numberValue};
+ghost use Rattle.stun.specs.Inner.{NextPeer, widthOf, Below};
 
 pub fn transaction_id(s: &[u8]) -> TransactionId
     requires { ⌜ 20 ≤ length (now s) ⌝ }
@@ -35,14 +36,14 @@ pub fn transaction_id(s: &[u8]) -> TransactionId
 // An address value: whether it is well formed, and the peer that it names.
 pub struct AddressValue {
     pub well_formed: bool,
-    pub peer: Peer,
+    pub peer: TransportAddress,
 }
 
 fn malformed() -> AddressValue
     ensures { λ r. ⌜ r ≡ malformed ⌝ }
 {
     let address = Address::V4(0);
-    let peer = Peer { address, port: 0 };
+    let peer = TransportAddress { address, port: 0 };
     AddressValue {
         well_formed: false,
         peer,
@@ -54,7 +55,7 @@ fn v4_at(s: &[u8], at: usize) -> AddressValue
     ensures { λ r. ⌜ r ≡ v4At (now (s .entry)) at ⌝ }
 {
     let address = Address::V4(xor_u32(u32_at(s, at + 4), crate::COOKIE));
-    let peer = Peer {
+    let peer = TransportAddress {
         address,
         port: xor_u16(u16_at(s, at + 2), crate::COOKIE_HIGH),
     };
@@ -73,7 +74,7 @@ fn v6_at(s: &[u8], at: usize) -> AddressValue
     let c = xor_u32(u32_at(s, at + 12), u32_at(s, 12));
     let d = xor_u32(u32_at(s, at + 16), u32_at(s, 16));
     let address = Address::V6(a, b, c, d);
-    let peer = Peer {
+    let peer = TransportAddress {
         address,
         port: xor_u16(u16_at(s, at + 2), crate::COOKIE_HIGH),
     };
@@ -176,13 +177,13 @@ fn number_value(s: &[u8], number: u16, width: Width) -> NumberValue
     ensures { λ r. ⌜ (r ≡ numberValue (widthOf width) number (now (s .entry))) × Below (256 ^ widthOf width) r ⌝ }
 {
     match first_attribute(s, number) {
-        Found::Value { start, len } => {
+        ValuePlace::Value { start, len } => {
             if len == 4 {
                 return NumberValue::Number(number_at(s, start, width));
             }
             NumberValue::WrongLength
         }
-        Found::Absent => NumberValue::Absent,
+        ValuePlace::Absent => NumberValue::Absent,
     }
 }
 

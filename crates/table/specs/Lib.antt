@@ -1,4 +1,2 @@
-pub mod HeldPorts
-pub mod Inner
-pub mod Search
 pub mod Table
+pub mod Inner

@@ -1,133 +1,26 @@
--- Document 01's 'State', and what its 'Requests' and 'Data' ask of one slot, in its order and words.
-use Prim.Native.Nat.{ℕ, _+_}
+-- What the functions over the lent slots answer.
+use Prim.Native.Nat.{ℕ, zero, suc}
 use mathlib.Core.Bool.{Bool, not}
-use mathlib.Core.List.{List}
-use lib.Dec.{eqb, ltb, leb}
-use lib.ListN.{replicate}
-use Rattle.choice.specs.Choice.{both}
-use Rattle.address.specs.declared.Address.{Address}
-use Rattle.address.specs.declared.Address.the-variants.{V4}
-use Rattle.address.specs.declared.Peer.{Peer}
-use Rattle.address.specs.declared.FiveTuple.{FiveTuple}
-use Rattle.address.specs.Address.{sameAddress, samePeer, sameFiveTuple}
-use Rattle.table.specs.declared.Permission.{Permission}
-use Rattle.table.specs.declared.Channel.{Channel}
-use Rattle.table.specs.declared.Allocation.{Allocation}
-use Rattle.table.specs.declared.Slot.{Slot}
-use Rattle.table.specs.declared.Found.{Found}
-use Rattle.table.specs.declared.Placed.{Placed}
-use Rattle.table.specs.Search.{has, find, entry, place, atOr}
+use mathlib.Core.List.{List, [], _∷_}
+use lib.ListN.{getD}
+use Rattle.choice.specs.Choice.{pick}
+use Rattle.slot.specs.declared.Allocation.{Allocation}
+use Rattle.slot.specs.declared.Slot.{Slot}
+use Rattle.slot.specs.Slot.{freshSlot, liveAllocation}
 
--- 'A thing is live at time t when t < its expiry.'
-abbrev pub live : ℕ → ℕ → Bool
-live time expiry = ltb time expiry
+-- slot k of the list, and past its end a fresh one
+abbrev pub slotAt : List Slot → ℕ → Slot
+slotAt l k = getD l k freshSlot
 
-unfoldable pub liveAllocation : ℕ → Allocation → Bool
-liveAllocation time allocation = live time (allocation .expiry)
+-- a test of an allocation, as one of the slot that it is in
+abbrev pub inSlot : (Allocation → Bool) → Slot → Bool
+inSlot test slot = test (slot .allocation)
 
-unfoldable pub livePermission : ℕ → Permission → Bool
-livePermission time permission = live time (permission .expiry)
+-- how many entries of a list pass a test
+unfoldable pub count : {A : Type 0} → (A → Bool) → List A → ℕ
+count passes [] = zero
+count passes (x ∷ l) = pick (passes x) (suc (count passes l)) (count passes l)
 
--- 'Fresh: clock and every number 0, every address IPv4 0.0.0.0.'
-abbrev pub freshPeer : Peer
-freshPeer = record { address = V4 0; port = 0 }
-
-abbrev pub freshAllocation : Allocation
-freshAllocation =
-    record { user = 0; «five_tuple» = record { client = freshPeer; server = freshPeer; protocol = 0 }; port = 0; expiry = 0 }
-
-abbrev pub freshPermission : Permission
-freshPermission = record { address = V4 0; expiry = 0 }
-
-abbrev pub freshChannel : Channel
-freshChannel = record { number = 0; peer = freshPeer; expiry = 0 }
-
--- 'with its eight permissions and eight channels beside them'
-unfoldable pub freshSlot : Slot
-freshSlot =
-    record { allocation = freshAllocation; permissions = replicate 8 freshPermission; channels = replicate 8 freshChannel }
-
--- the slot with another allocation, other permissions or other channels, and the rest of it as it was
-abbrev pub withAllocation : Slot → Allocation → Slot
-withAllocation slot allocation = record { allocation = allocation; permissions = slot .permissions; channels = slot .channels }
-
-abbrev pub withPermissions : Slot → List Permission → Slot
-withPermissions slot permissions = record { allocation = slot .allocation; permissions = permissions; channels = slot .channels }
-
-abbrev pub withChannels : Slot → List Channel → Slot
-withChannels slot channels = record { allocation = slot .allocation; permissions = slot .permissions; channels = channels }
-
--- 'a channel numbered outside 0x4000 to 0x4FFF is never live'
-unfoldable pub isChannelNumber : ℕ → Bool
-isChannelNumber number = both (leb 0x4000 number) (leb number 0x4fff)
-
-unfoldable pub liveChannel : ℕ → Channel → Bool
-liveChannel time channel = both (live time (channel .expiry)) (isChannelNumber (channel .number))
-
--- Allocate: 'live allocation for the 5-tuple'
-unfoldable pub holds : ℕ → FiveTuple → Allocation → Bool
-holds time fiveTuple allocation = both (liveAllocation time allocation) (sameFiveTuple (allocation .«five_tuple») fiveTuple)
-
--- 'user holds 8 or more live allocations': whether this is one of them
-unfoldable pub holdsUser : ℕ → ℕ → Allocation → Bool
-holdsUser time user allocation = both (liveAllocation time allocation) (eqb (allocation .user) user)
-
--- 'whose port no live slot holds', and a peer's datagram's 'no live slot with the port': whether this one holds it
-unfoldable pub holdsPort : ℕ → ℕ → Allocation → Bool
-holdsPort time port allocation = both (liveAllocation time allocation) (eqb (allocation .port) port)
-
--- CreatePermission: 'a live permission for the IP address (ports ignored)', as in Send's 'no live permission for the peer's IP address'
-unfoldable pub permits : ℕ → Address → Permission → Bool
-permits time address permission = both (livePermission time permission) (sameAddress (permission .address) address)
-
--- '.. or the lowest entry that isn't live takes it'
-unfoldable pub freePermission : ℕ → Permission → Bool
-freePermission time permission = not (livePermission time permission)
-
-unfoldable pub permissionEntry : ℕ → Address → List Permission → Found
-permissionEntry time address permissions = entry (permits time address) (freePermission time) permissions
-
--- '.. is set to expire at now + 300'; 'if neither exists .. no entry changes'
-unfoldable pub permit : ℕ → Address → Slot → Placed
-permit time address slot =
-    let found = permissionEntry time address (slot .permissions) in
-    record {
-      ok = has found;
-      slot = withPermissions slot (place found (record { address = address; expiry = time + 300 }) (slot .permissions));
-    }
-
--- ChannelBind: 'number live', as in ChannelData's 'channel not live'
-unfoldable pub numbered : ℕ → ℕ → Channel → Bool
-numbered time number channel = both (liveChannel time channel) (eqb (channel .number) number)
-
--- 'peer live', as in 'If the peer has a live channel'. 'A peer here is address and port.'
-unfoldable pub leadsTo : ℕ → Peer → Channel → Bool
-leadsTo time peer channel = both (liveChannel time channel) (samePeer (channel .peer) peer)
-
--- 'number live for another peer'
-unfoldable pub numberTaken : ℕ → ℕ → Peer → List Channel → Bool
-numberTaken time number peer channels =
-    let found = find (numbered time number) channels in
-    both (has found) (not (samePeer (atOr freshChannel found channels .peer) peer))
-
--- 'peer live on another number'
-unfoldable pub peerTaken : ℕ → ℕ → Peer → List Channel → Bool
-peerTaken time number peer channels =
-    let found = find (leadsTo time peer) channels in
-    both (has found) (not (eqb (atOr freshChannel found channels .number) number))
-
--- 'Both entries are chosen as a permission's is above'
-unfoldable pub freeChannel : ℕ → Channel → Bool
-freeChannel time channel = not (liveChannel time channel)
-
-unfoldable pub channelEntry : ℕ → ℕ → List Channel → Found
-channelEntry time number channels = entry (numbered time number) (freeChannel time) channels
-
--- 'the binding expires at now + 600'
-unfoldable pub bind : ℕ → ℕ → Peer → Slot → Placed
-bind time number peer slot =
-    let found = channelEntry time number (slot .channels) in
-    record {
-      ok = has found;
-      slot = withChannels slot (place found (record { number = number; peer = peer; expiry = time + 600 }) (slot .channels));
-    }
+-- a 'slot that isn't live'
+abbrev pub lapsed : ℕ → Allocation → Bool
+lapsed time allocation = not (liveAllocation time allocation)

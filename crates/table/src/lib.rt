@@ -1,134 +1,90 @@
-// The records of the relay's state, and the searches in one slot, all by value. A slot is what an allocation has: the allocation
-// itself, its permissions and its channels. Nothing here knows of the table that the slots are in.
-use address::Address;
-use address::FiveTuple;
-use address::Peer;
-use allocations::fresh_allocation;
-use channels::fresh_channel;
-use permissions::fresh_permission;
+// The table's slots, lent as a slice. Only the functions of this file touch that memory, one slot at a time; every decision is by
+// value, in the modules.
+use keys::Key;
+use keys::Wanted;
+use keys::matches;
+use keys::wanted_key;
+use keys::wanted_time;
+use keys::wants_room;
+use slot::Allocation;
+use slot::Found;
+use slot::Slot;
+use surveys::Survey;
+use surveys::first_survey;
+use surveys::only_own;
+use surveys::surveyed_with;
 ghost use mathlib.Core.Path.{_≡_};
-ghost use Rattle.table.specs.Search.{has, orElse};
-ghost use Rattle.table.specs.Table.{live, freshPeer, freshSlot, withAllocation, withPermissions, withChannels};
+ghost use Prim.Native.Nat.{_<_};
+ghost use lib.ListN.{length, set};
+ghost use Rattle.table.specs.Table.{slotAt};
+ghost use Rattle.table.specs.Inner.{searched, Surveyed, Looked};
 
-pub mod allocations;
-pub mod channels;
-pub mod permissions;
-pub mod ports;
+pub mod keys;
+pub mod surveys;
 
-// An IP address that may send to the client and be sent to, at any port.
-pub struct Permission {
-    pub address: Address,
-    pub expiry: u64,
-}
-
-// A number that stands for a peer, in ChannelData.
-pub struct Channel {
-    pub number: u16,
-    pub peer: Peer,
-    pub expiry: u64,
-}
-
-// Whose the slot is, and its relay port: what every lookup over the slots reads.
-pub struct Allocation {
-    pub user: u8,
-    pub five_tuple: FiveTuple,
-    pub port: u16,
-    pub expiry: u64,
-}
-
-pub struct Slot {
-    pub allocation: Allocation,
-    pub permissions: [Permission; 8],
-    pub channels: [Channel; 8],
-}
-
-// What a search finds: the place of an entry, or nothing.
-pub enum Found {
-    At(usize),
-    Nothing,
-}
-
-// The slot after an entry was taken. `ok` is false where there is no room, and the slot then is as it was.
-pub struct Placed {
-    pub ok: bool,
-    pub slot: Slot,
-}
-
-// Whether a thing with that expiry is live; at the moment of expiry it is not.
-pub fn is_live(time: u64, expiry: u64) -> bool
-    ensures { λ r. ⌜ r ≡ live time expiry ⌝ }
+pub fn slot_count(slots: &[Slot]) -> usize
+    ensures { λ r. ⌜ r ≡ length (now (slots .entry)) ⌝ }
 {
-    time < expiry
+    slots.len()
 }
 
-// Whether a search found one.
-pub fn has(found: Found) -> bool
-    ensures { λ r. ⌜ r ≡ has found ⌝ }
+pub fn slot_at(slots: &[Slot], k: usize) -> Slot
+    requires { ⌜ k < length (now slots) ⌝ }
+    ensures { λ r. ⌜ r ≡ slotAt (now (slots .entry)) k ⌝ }
 {
-    if let Found::At(_) = found {
-        true
-    } else {
-        false
+    slots[k]
+}
+
+// The allocation alone: what is beside it in the slot is not copied.
+pub(crate) fn allocation_at(slots: &[Slot], k: usize) -> Allocation
+    requires { ⌜ k < length (now slots) ⌝ }
+    ensures { λ r. ⌜ r ≡ slotAt (now (slots .entry)) k .allocation ⌝ }
+{
+    slots[k].allocation
+}
+
+pub fn put_slot(slots: &mut [Slot], k: usize, slot: Slot)
+    requires { ⌜ k < length (now slots) ⌝ }
+    ensures { λ _. ⌜ now (slots .exit) ≡ set (now (slots .entry)) k slot ⌝ }
+{
+    slots[k] = slot;
+}
+
+// The lowest slot that is live and has the key.
+pub(crate) fn search(slots: &[Slot], time: u64, key: Key) -> Found
+    ensures { λ r. ⌜ r ≡ searched time key (now (slots .entry)) ⌝ }
+{
+    let mut i: usize = 0;
+    while i < slots.len() {
+        let allocation = allocation_at(slots, i);
+        if matches(time, key, allocation) {
+            return Found::At(i);
+        }
+        i += 1;
     }
+    Found::Nothing
 }
 
-// What the first search found, or else the second.
-pub fn or_else(first: Found, second: Found) -> Found
-    ensures { λ r. ⌜ r ≡ orElse first second ⌝ }
+// What Allocate asks of the slots, in one pass over them.
+fn survey(slots: &[Slot], wanted: Wanted) -> Survey
+    ensures { λ r. ⌜ Surveyed (now (slots .entry)) wanted r ⌝ }
 {
-    match first {
-        Found::At(place) => Found::At(place),
-        Found::Nothing => second,
+    let mut survey = first_survey();
+    let mut i: usize = 0;
+    while i < slots.len() {
+        let allocation = allocation_at(slots, i);
+        survey = surveyed_with(survey, i, wanted, allocation);
+        i += 1;
     }
+    survey
 }
 
-// Port 0 of IPv4 0.0.0.0.
-pub fn fresh_peer() -> Peer
-    ensures { λ r. ⌜ r ≡ freshPeer ⌝ }
+// One look over the slots: up to the slot of the key, or over all of them where room is wanted.
+pub fn look(slots: &[Slot], wanted: Wanted) -> Survey
+    ensures { λ r. ⌜ Looked (now (slots .entry)) wanted r ⌝ }
 {
-    let address = Address::V4(0);
-    Peer { address, port: 0 }
-}
-
-// A slot with every number 0 and every address IPv4 0.0.0.0, so that nothing in it is live.
-pub fn fresh_slot() -> Slot
-    ensures { λ r. ⌜ r ≡ freshSlot ⌝ }
-{
-    let allocation = fresh_allocation();
-    let permission = fresh_permission();
-    let channel = fresh_channel();
-    let permissions = [permission; 8];
-    let channels = [channel; 8];
-    Slot {
-        allocation,
-        permissions,
-        channels,
+    if wants_room(wanted) {
+        return survey(slots, wanted);
     }
-}
-
-// The slot with this allocation in place of its own.
-pub fn with_allocation(slot: Slot, allocation: Allocation) -> Slot
-    ensures { λ r. ⌜ r ≡ withAllocation slot allocation ⌝ }
-{
-    let mut made = slot;
-    made.allocation = allocation;
-    made
-}
-
-// The slot with these permissions in place of its own.
-pub fn with_permissions(slot: Slot, permissions: [Permission; 8]) -> Slot
-    ensures { λ r. ⌜ r ≡ withPermissions slot permissions ⌝ }
-{
-    let mut made = slot;
-    made.permissions = permissions;
-    made
-}
-
-// The slot with these channels in place of its own.
-pub fn with_channels(slot: Slot, channels: [Channel; 8]) -> Slot
-    ensures { λ r. ⌜ r ≡ withChannels slot channels ⌝ }
-{
-    let mut made = slot;
-    made.channels = channels;
-    made
+    only_own(search(slots, wanted_time(wanted), wanted_key(wanted)))
 }

@@ -1,26 +1,29 @@
 -- The laws of numbers and bytes as text: each comes back from its text, and no other text is read.
 use Prim.Native.Nat.{ℕ, zero, suc, _+_, _-_, _*_, _/_, _%_, _^_, _≤_, _<_, suc-le-suc}
 use mathlib.Core.Path.{_≡_, refl, sym, ap, ap₂, _∙_, subst}
-use mathlib.Core.Bool.{Bool, true, false, false≢true}
+use mathlib.Core.Bool.{Bool, true, false, not, false≢true}
 use mathlib.Core.List.{List, [], _∷_, _++_, append-assoc, append-nil}
 use native.Mathlib.Omega.{arith}
 use native.Mathlib.Numerals.{add-one}
 use native.Mathlib.Nat.{pow-zero, add-assoc, mul-le-mul-left, le-refl, lt-of-lt-of-le, one-le-pow, pow-suc, pow-succ', mul-assoc, zero-mul, zero-add, mod-lt, mod-one, mod-eq-of-lt, div-one, div-div-eq-div-mul, div-lt-iff-lt-mul, le-div-iff-mul-le, add-mul}
 use lib.Arith.{mod-mul, digits-div, digits-mod}
-use lib.Dec.{eqb, ltb, lit<, lit≤}
+use lib.Dec.{eqb, ltb, leb, lit<, lit≤}
 use lib.ListN.{length, getD, take, drop, set, length-append, length-set}
 use lib.Seq.{take-all, length-take-le, set-at, drop-cons, drop-set-lt, getD-set-same, take-suc, slice, slice-empty, slice-cons, length-slice}
-use borrow.Author.Tests.{lt-ltb, le-ltb, le-leb, lt-leb, eq-eqb, ne-eqb, ltb-true, ltb-false, eqb-true}
+use borrow.Author.Tests.{lt-ltb, le-ltb, le-leb, lt-leb, eq-eqb, ne-eqb, ltb-true, ltb-false, eqb-true, eqb-false, not-true}
 use borrow.Rule.Slice.PartMut.{midOf, putMid}
 use Rattle.choice.specs.Choice.{pick, both}
-use Rattle.choice.proofs.Laws.{both-parts}
-use Rattle.wire.specs.Wire.{Wrote}
+use Rattle.choice.proofs.Laws.{both-parts, both-no, both-yes}
+use Rattle.bytes.specs.Bytes as bytes
+use Rattle.bytes.specs.Bytes.{indexOf, indexAfter}
+use Rattle.wire.specs.Inner.{Wrote}
 use Rattle.wire.proofs.Laws.{wrote-then}
 use Rattle.address.specs.declared.Address.{Address}
 use Rattle.address.specs.declared.Address.the-variants.{V4, V6}
 use Rattle.text.specs.declared.Parsed.{Parsed}
 use Rattle.text.specs.declared.Parsed.the-variants.{Number, Nothing}
-use Rattle.text.specs.Text.{digit, digitsOf, sizeWithin, decimalSize, decimal, hexWord, addressText, hexBytes, digitValue, numberFrom, ofSize, decimalOf, hexWordOf, isHex, hexBytesOf, hexFront, hexInto, ReadHex}
+use Rattle.text.specs.Text.{digit, digitsOf, sizeWithin, decimalSize, decimal, hexWord, addressText, hexBytes, digitValue, numberFrom, ofSize, decimalOf, hexWordOf, isHex, hexBytesOf}
+use Rattle.text.specs.Inner.{hexInto, ReadHex, Past}
 
 -- two numbers are in one of two orders
 either : (n m : ℕ) {P : Type 0} → (n < m → P) → (m ≤ n → P) → P
@@ -157,7 +160,7 @@ unfolding decimalSize sizeWithin
 size-more zero h = omega arith
 size-more (suc n) h = rw (le-ltb (suc n) 10 h) (ap suc (size-within n (suc n / 10) (suc n / 10) (omega arith) (omega arith)))
 
-size-le : (k n : ℕ) → n < 10 ^ suc k → decimalSize n ≤ suc k
+pub size-le : (k n : ℕ) → n < 10 ^ suc k → decimalSize n ≤ suc k
 size-le zero n h = rw (size-small n h) (lit≤ tt)
 size-le (suc k) n h = either n 10
     (λ l. rw (size-small n l) (omega arith))
@@ -302,43 +305,99 @@ number-end {base} {s} {from} {to} {n} {i} r l =
     let e : i ≡ to = omega arith in
     sym (r .is ∙ rw (e, slice-empty))
 
+-- a number below the largest quotient has room for one digit more
+pub fits-below : (base n d : ℕ) → 0 < base → d < base → n < 18446744073709551615 / base → n ≤ (18446744073709551615 - d) / base
+fits-below base n d p k l =
+    let m : (n + 1) * base ≤ 18446744073709551615 = le-div-iff-mul-le p .0 (omega arith) in
+    let e : (n + 1) * base ≡ n * base + 1 * base = add-mul n 1 base in
+    le-div-iff-mul-le p .1 (omega arith)
+
+-- a character that is a digit, by its place in the code
+pub digit-low : (c : ℕ) → c < 58 → leb 48 c ≡ ltb (digitValue c) 16
+unfolding digitValue
+digit-low c h =
+    either c 48
+    (λ a. rw (lt-leb 48 c a, lt-ltb c 48 a))
+    (λ a. rw (le-leb 48 c a, le-ltb c 48 a, le-leb c 57 (omega arith)) (sym (lt-ltb (c - 48) 16 (omega arith))))
+
+pub digit-high : (c : ℕ) → 58 ≤ c → both (leb 97 c) (leb c 102) ≡ ltb (digitValue c) 16
+unfolding digitValue both
+digit-high c h =
+    either c 97
+    (λ a. rw (lt-leb 97 c a, le-ltb c 48 (omega arith), lt-leb c 57 (omega arith), lt-ltb c 97 a))
+    (λ a.
+    rw (le-leb 97 c a, le-ltb c 48 (omega arith), lt-leb c 57 (omega arith), le-ltb c 97 a)
+    (either 102 c (λ b. rw (lt-leb c 102 b)) (λ b. rw (le-leb c 102 b) (sym (lt-ltb (c - 87) 16 (omega arith))))))
+
+pub digit-sum : (c : ℕ) → digitValue c < 16 → c % 16 + 9 * (c / 64) ≡ digitValue c
+unfolding digitValue
+digit-sum c h =
+    either c 48
+    (λ a. none (rw (lt-ltb c 48 a) at h))
+    (λ a. either 57 c (λ b. late a b h) (λ b. rw (le-ltb c 48 a, le-leb c 57 b) (omega arith)))
+  where
+    none : {P : Type 0} → 16 < 16 → P
+    none l = let y : ⊥ = omega (arith, l) in absurd y
+
+    late : 48 ≤ c → 57 < c → digitValue c < 16 → c % 16 + 9 * (c / 64) ≡ digitValue c
+    late a b l =
+        either c 97
+        (λ d. none (rw (le-ltb c 48 a, lt-leb c 57 b, lt-ltb c 97 d) at l))
+        (λ d.
+        either 102 c
+        (λ e. none (rw (le-ltb c 48 a, lt-leb c 57 b, le-ltb c 97 d, lt-leb c 102 e) at l))
+        (λ e. rw (le-ltb c 48 a, lt-leb c 57 b, le-ltb c 97 d, le-leb c 102 e) (omega arith)))
+
+-- a text is hex where its length is even and every character is a digit
+unfoldable pub allDigits : List ℕ → Bool
+allDigits [] = true
+allDigits (c ∷ l) = both (ltb (digitValue c) 16) (allDigits l)
+
+both-third : (a b e r : Bool) → both a (both b (both e r)) ≡ both e (both a (both b r))
+unfolding both
+both-third true true e r = refl
+both-third true false e r = sym (both-no e)
+both-third false b e r = sym (both-no e)
+
+both-assoc : (a b r : Bool) → both a (both b r) ≡ both (both a b) r
+unfolding both
+both-assoc true b r = refl
+both-assoc false b r = refl
+
+hex-digits : (l : List ℕ) → isHex l ≡ both (eqb (length l % 2) 0) (allDigits l)
+unfolding isHex allDigits both
+hex-digits [] = refl
+hex-digits (c ∷ []) = refl
+hex-digits (c ∷ e ∷ l) =
+    let even : length l % 2 ≡ suc (suc (length l)) % 2 = omega arith in
+    ap (λ (b : Bool). both (ltb (digitValue c) 16) (both (ltb (digitValue e) 16) b)) (hex-digits l)
+    ∙ both-third (ltb (digitValue c) 16) (ltb (digitValue e) 16) (eqb (length l % 2) 0) (allDigits l)
+    ∙ ap (λ (n : ℕ). both (eqb n 0) (allDigits (c ∷ e ∷ l))) even
+
 -- a test of hex at place i
-pub record Testing (s : List ℕ) (from to i : ℕ) : Type 0 where
+pub record Testing (s : List ℕ) (from to i : ℕ) (good : Bool) : Type 0 where
   pub within : i ≤ to
-  pub is : isHex (slice from to s) ≡ isHex (slice i to s)
+  pub is : isHex (slice from to s) ≡ both good (allDigits (slice i to s))
 
-module _ {s : List ℕ} {from to i : ℕ} (r : Testing s from to i) (l : i < to) (h : to ≤ length s) where
-  hex-step : i + 2 ≤ to → isHex (slice from to s)
-      ≡ both (ltb (digitValue (getD s i 0)) 16) (both (ltb (digitValue (getD s (i + 1) 0)) 16) (isHex (slice (i + 2) to s)))
-  unfolding isHex
-  hex-step k =
-      let e : suc (i + 1) ≡ i + 2 = omega arith in
-      r .is ∙ rw (slice-cons i to s 0 l h, ← add-one i, slice-cons (i + 1) to s 0 (omega arith) h, e)
+pub testing-start : (s : List ℕ) (from to : ℕ) → from ≤ to → to ≤ length s → Testing s from to from (eqb ((to - from) % 2) 0)
+testing-start s from to l h = record {
+  within = l;
+  is = hex-digits (slice from to s) ∙ ap (λ (n : ℕ). both (eqb (n % 2) 0) (allDigits (slice from to s))) (length-slice from to s h);
+}
 
-  pub hex-odd : to - i < 2 → false ≡ isHex (slice from to s)
-  unfolding isHex
-  hex-odd o =
-      let e : suc i ≡ to = omega arith in
-      sym (r .is ∙ rw (slice-cons i to s 0 l h, e, slice-empty))
+pub testing-next : {s : List ℕ} {from to i : ℕ} {good is-digit more : Bool} → Testing s from to i good → i < to → to ≤ length s
+    → is-digit ≡ ltb (digitValue (getD s i 0)) 16 → more ≡ both good is-digit → Testing s from to (i + 1) more
+unfolding allDigits
+testing-next {s} {from} {to} {i} {good} {is-digit} {more} r l h d m = record {
+  within = omega arith;
+  is = r .is ∙ rw (slice-cons i to s 0 l h, ← d, m, add-one) (both-assoc good is-digit (allDigits (slice (suc i) to s)));
+}
 
-  module _ {d : ℕ} (k : 2 ≤ to - i) (v : d ≡ digitValue (getD s i 0)) where
-    pub hex-first : 16 ≤ d → false ≡ isHex (slice from to s)
-    unfolding both
-    hex-first b = sym (hex-step (omega arith) ∙ rw (← v, le-ltb d 16 b))
-
-    pub hex-second : {e : ℕ} → d < 16 → e ≡ digitValue (getD s (i + 1) 0) → 16 ≤ e → false ≡ isHex (slice from to s)
-    unfolding both
-    hex-second {e} a w b = sym (hex-step (omega arith) ∙ rw (← v, ← w, lt-ltb d 16 a, le-ltb e 16 b))
-
-    pub hex-next : {e : ℕ} → d < 16 → e ≡ digitValue (getD s (i + 1) 0) → e < 16 → Testing s from to (i + 2)
-    unfolding both
-    hex-next {e} a w b = record { within = omega arith; is = hex-step (omega arith) ∙ rw (← v, ← w, lt-ltb d 16 a, lt-ltb e 16 b) }
-
-pub hex-end : {s : List ℕ} {from to i : ℕ} → Testing s from to i → to ≤ i → true ≡ isHex (slice from to s)
-unfolding isHex
-hex-end {s} {from} {to} {i} r l =
-    let e : i ≡ to = omega arith in
-    sym (r .is ∙ rw (e, slice-empty))
+pub testing-end : {s : List ℕ} {from to i : ℕ} {good : Bool} → Testing s from to i good → to ≤ i → good ≡ isHex (slice from to s)
+unfolding allDigits
+testing-end {s} {from} {to} {i} {good} r l =
+    let e : i ≡ to = omega (arith, r .within) in
+    sym (r .is ∙ rw (e, slice-empty) (both-yes good))
 
 length-hex : (t : List ℕ) → length (hexBytesOf t) ≡ length t / 2
 unfolding hexBytesOf
@@ -400,91 +459,99 @@ pub hexing-end : {v d l : List ℕ} {i : ℕ} → Hexing v d l i → length v �
 hexing-end {v} {d} {l} {i} r h = rw (take-all i v h) at (r .is)
 
 -- a buffer that a hex text was read into
-hex-front : (t : List ℕ) → isHex t ≡ true → hexFront t ≡ hexBytesOf t
-unfolding isHex hexFront hexBytesOf both
-hex-front [] t = refl
-hex-front (c ∷ []) t = absurd (false≢true t)
-hex-front (c ∷ e ∷ l) t =
-    let v = digitValue c in
-    let w = digitValue e in
-    let ts = both-parts (ltb v 16) (both (ltb w 16) (isHex l)) t in
-    let us = both-parts (ltb w 16) (isHex l) (ts .1) in
-    rw (ts .0, us .0) (ap (λ (r : List ℕ). (v * 16 + w) ∷ r) (hex-front l (us .1)))
-
 pub hex-into : (t before : List ℕ) → isHex t ≡ true → hexInto t before ≡ hexBytesOf t ++ drop (length (hexBytesOf t)) before
 unfolding hexInto
-hex-into t before hex = rw (hex-front t hex)
+hex-into t before hex = rw hex
 
--- of a text from `from` to `to` the first k pairs are digits, and their bytes are read
+pub not-read : {t d : List ℕ} → isHex t ≡ false → ReadHex t d d Nothing
+unfolding hexInto
+not-read bad = record { answer = rw bad; is = rw bad }
+
+hex-short : (l : List ℕ) → isHex l ≡ true → length l < 2 → l ≡ []
+unfolding isHex
+hex-short [] t h = refl
+hex-short (c ∷ []) t h = absurd (false≢true t)
+hex-short (c ∷ e ∷ l) t h = let y : ⊥ = omega (arith, h) in absurd y
+
+-- of a hex text from `from` to `to` the bytes of the first k pairs are read
 pub record Filling (s : List ℕ) (from to : ℕ) (d l : List ℕ) (k : ℕ) : Type 0 where
-  pub tested : Testing s from to (from + 2 * k)
+  pub good : isHex (slice from to s) ≡ true
+  pub within : from + 2 * k ≤ to
+  pub left : isHex (slice (from + 2 * k) to s) ≡ true
   pub read : List ℕ
   pub count : length read ≡ k
-  pub front : hexFront (slice from to s) ≡ read ++ hexFront (slice (from + 2 * k) to s)
+  pub front : hexBytesOf (slice from to s) ≡ read ++ hexBytesOf (slice (from + 2 * k) to s)
   pub long : length l ≡ length d
   pub is : l ≡ read ++ drop k d
 
-pub filling-start : (s : List ℕ) (from to : ℕ) (d : List ℕ) → from ≤ to → Filling s from to d d 0
-filling-start s from to d h =
+pub filling-start : (s : List ℕ) (from to : ℕ) (d : List ℕ) → from ≤ to → isHex (slice from to s) ≡ true → Filling s from to d d 0
+filling-start s from to d h hex =
     let e : from + 2 * 0 ≡ from = omega arith in
-    record { tested = record { within = omega arith; is = rw e }; read = []; count = refl; front = rw e; long = refl; is = refl }
+    record { good = hex; within = omega arith; left = rw e hex; read = []; count = refl; front = rw e; long = refl; is = refl }
 
-front-step : (s : List ℕ) (i to : ℕ) → i + 2 ≤ to → to ≤ length s → hexFront (slice i to s)
-    ≡ pick (both (ltb (digitValue (getD s i 0)) 16) (ltb (digitValue (getD s (i + 1) 0)) 16))
-    ((digitValue (getD s i 0) * 16 + digitValue (getD s (i + 1) 0)) ∷ hexFront (slice (i + 2) to s)) []
-unfolding hexFront
-front-step s i to k h =
+next-pair : (s : List ℕ) (i to : ℕ) → i + 2 ≤ to → to ≤ length s → slice i to s ≡ getD s i 0 ∷ getD s (i + 1) 0 ∷ slice (i + 2) to s
+next-pair s i to k h =
     let e : suc (i + 1) ≡ i + 2 = omega arith in
     rw (slice-cons i to s 0 (omega arith) h, ← add-one i, slice-cons (i + 1) to s 0 (omega arith) h, e)
 
 module _ {s : List ℕ} {from to : ℕ} {d l : List ℕ} {k : ℕ} (r : Filling s from to d l k) (h : to ≤ length s) where
-  stopped : hexFront (slice (from + 2 * k) to s) ≡ [] → l ≡ hexInto (slice from to s) d
-  unfolding hexInto
-  stopped none =
-      let e : hexFront (slice from to s) ≡ r .read = r .front ∙ rw (none, append-nil) in
-      rw (e, r .count) (r .is)
+  module _ (a : k < (to - from) / 2) where
+    both-digits : both (ltb (digitValue (getD s (from + 2 * k) 0)) 16) (both (ltb (digitValue (getD s (from + 2 * k + 1) 0)) 16) (isHex (slice (from + 2 * k + 2) to s))) ≡ true
+    unfolding isHex
+    both-digits = sym (ap isHex (next-pair s (from + 2 * k) to (omega arith) h)) ∙ r .left
 
-  refused : false ≡ isHex (slice from to s) → hexFront (slice (from + 2 * k) to s) ≡ [] → ReadHex (slice from to s) d l Nothing
-  refused bad none = record { answer = rw (← bad); is = stopped none }
+    pub filling-high : digitValue (getD s (from + 2 * k) 0) < 16
+    filling-high = ltb-true _ 16 (both-parts _ _ both-digits .0)
 
-  module _ {x : ℕ} (a : k < (to - from) / 2) (u : x ≡ digitValue (getD s (from + 2 * k) 0)) where
-    pub filling-first : 16 ≤ x → ReadHex (slice from to s) d l Nothing
-    unfolding both
-    filling-first b =
-        refused (hex-first (r .tested) (omega arith) h (omega arith) u b)
-        (front-step s (from + 2 * k) to (omega arith) h ∙ rw (← u, le-ltb x 16 b))
+    pub filling-low : digitValue (getD s (from + 2 * k + 1) 0) < 16
+    filling-low = ltb-true _ 16 (both-parts _ _ (both-parts _ _ both-digits .1) .0)
 
-    module _ {y : ℕ} (b : x < 16) (v : y ≡ digitValue (getD s (from + 2 * k + 1) 0)) where
-      pub filling-second : 16 ≤ y → ReadHex (slice from to s) d l Nothing
-      unfolding both
-      filling-second c =
-          refused (hex-second (r .tested) (omega arith) h (omega arith) u b v c)
-          (front-step s (from + 2 * k) to (omega arith) h ∙ rw (← u, ← v, lt-ltb x 16 b, le-ltb y 16 c))
+    pub filling-next : {x y : ℕ} → x ≡ digitValue (getD s (from + 2 * k) 0) → y ≡ digitValue (getD s (from + 2 * k + 1) 0) → to ≤ from + 2 * length d
+        → Filling s from to d (set l k (x * 16 + y)) (k + 1)
+    unfolding hexBytesOf
+    filling-next {x} {y} u v room =
+        let e : from + 2 * (k + 1) ≡ from + 2 * k + 2 = omega arith in
+        record {
+          good = r .good;
+          within = omega arith;
+          left = rw e (both-parts _ _ (both-parts _ _ both-digits .1) .1);
+          read = r .read ++ (x * 16 + y) ∷ [];
+          count = rw (length-append, r .count) (omega arith);
+          front = r .front ∙ rw (next-pair s (from + 2 * k) to (omega arith) h, ← u, ← v, e, append-assoc);
+          long = simp length-set (r .long);
+          is = rw (r .is, drop-cons d k 0 (omega arith), set-at (r .read) (getD d k 0) (drop (suc k) d) (x * 16 + y) k (r .count), add-one, append-assoc);
+        }
 
-      pub filling-next : y < 16 → to ≤ from + 2 * length d → Filling s from to d (set l k (x * 16 + y)) (k + 1)
-      unfolding both
-      filling-next c room =
-          let e : from + 2 * (k + 1) ≡ from + 2 * k + 2 = omega arith in
-          record {
-            tested = rw e (hex-next (r .tested) (omega arith) h (omega arith) u b v c);
-            read = r .read ++ (x * 16 + y) ∷ [];
-            count = rw (length-append, r .count) (omega arith);
-            front = r .front ∙ rw (front-step s (from + 2 * k) to (omega arith) h, ← u, ← v, lt-ltb x 16 b, lt-ltb y 16 c, e, append-assoc);
-            long = simp length-set (r .long);
-            is = rw (r .is, drop-cons d k 0 (omega arith), set-at (r .read) (getD d k 0) (drop (suc k) d) (x * 16 + y) k (r .count), add-one, append-assoc);
-          }
+  pub filling-end : (to - from) / 2 ≤ k → ReadHex (slice from to s) d l (Number ((to - from) / 2))
+  unfolding hexInto hexBytesOf
+  filling-end a =
+      let t = slice from to s in
+      let n : length (hexBytesOf t) ≡ (to - from) / 2 = length-hex t ∙ ap (λ (m : ℕ). m / 2) (length-slice from to s h) in
+      let none = hex-short (slice (from + 2 * k) to s) (r .left) (rw (length-slice (from + 2 * k) to s h) (omega arith)) in
+      let all : hexBytesOf t ≡ r .read = r .front ∙ rw (none, append-nil) in
+      record { answer = rw (r .good, n); is = rw (r .good, all, r .count) (r .is) }
 
-  module _ (a : (to - from) / 2 ≤ k) where
-    pub filling-odd : 2 * ((to - from) / 2) < to - from → ReadHex (slice from to s) d l Nothing
-    unfolding hexFront
-    filling-odd o =
-        let e : suc (from + 2 * k) ≡ to = omega (arith, r .tested .within) in
-        refused (hex-odd (r .tested) (omega arith) h (omega arith)) (rw (slice-cons (from + 2 * k) to s 0 (omega arith) h, e, slice-empty))
+-- ---- a search for a byte, sixteen at once
+module _ (a : List ℕ) (start b : ℕ) where
+  pub past-none : Past a start 0 b
+  past-none to l h = rw (zero-add, let e : start + 0 ≡ start = omega arith in e)
 
-    pub filling-end : to - from ≤ 2 * ((to - from) / 2) → ReadHex (slice from to s) d l (Number ((to - from) / 2))
-    unfolding hexFront
-    filling-end whole =
-        let t = slice from to s in
-        let n : length (hexBytesOf t) ≡ (to - from) / 2 = length-hex t ∙ ap (λ (m : ℕ). m / 2) (length-slice from to s h) in
-        let e : from + 2 * k ≡ to = omega (arith, r .tested .within) in
-        record { answer = rw (← hex-end (r .tested) (omega arith), n); is = stopped (rw (e, slice-empty)) }
+  past-next : (i : ℕ) → Past a start i b → (getD a (start + i) 0 ≡ b → ⊥) → Past a start (i + 1) b
+  unfolding bytes.slice indexOf indexAfter
+  past-next i before other to l h =
+      let e : suc (start + i) ≡ start + (i + 1) = omega arith in
+      let one : indexOf b (slice (start + i) to a) ≡ suc (indexOf b (slice (suc (start + i)) to a)) =
+      rw (slice-cons (start + i) to a 0 (omega arith) h, ne-eqb (getD a (start + i) 0) b other) in
+      let step = subst (λ (j : ℕ). indexOf b (slice (start + i) to a) ≡ suc (indexOf b (slice j to a))) e one in
+      before to (omega arith) h ∙ ap (λ (n : ℕ). i + n) step ∙ (omega arith)
+
+  pub past-more : (i : ℕ) {past more : Bool} → (past ≡ true → Past a start i b) → more ≡ both past (not (eqb (getD a (start + i) 0) b)) → more ≡ true
+      → Past a start (i + 1) b
+  past-more i {past} before e t =
+      let ts = both-parts past (not (eqb (getD a (start + i) 0) b)) (sym e ∙ t) in
+      past-next i (before (ts .0)) (eqb-false (getD a (start + i) 0) b (not-true _ (ts .1)))
+
+  -- a search that has come to `start` goes on behind what it is past
+  pub past-all : (n : ℕ) {to found : ℕ} → found ≡ start + indexOf b (bytes.slice start to a) → Past a start n b → start + n ≤ to → to ≤ length a
+      → found ≡ start + n + indexOf b (bytes.slice (start + n) to a)
+  past-all n {to} e past l h = e ∙ ap (λ (m : ℕ). start + m) (past to l h) ∙ sym (add-assoc start n _)

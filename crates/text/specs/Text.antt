@@ -1,11 +1,10 @@
 -- Lines, addresses, numbers and bytes as text: 'Tabs part the fields, each line ends in a newline; addresses are 8 or 32 lower hex digits,
 -- other numbers decimal without leading zeros.'
 use Prim.Native.Nat.{ℕ, zero, suc, _+_, _-_, _*_, _/_, _%_, _^_}
-use mathlib.Core.Path.{_≡_}
 use mathlib.Core.Bool.{Bool, true, false}
 use mathlib.Core.List.{List, [], _∷_, _++_}
 use lib.Dec.{eqb, leb, ltb}
-use lib.ListN.{length, drop}
+use lib.ListN.{length}
 use Rattle.choice.specs.Choice.{pick, both}
 use Rattle.address.specs.declared.Address.{Address}
 use Rattle.address.specs.declared.Address.the-variants.{V4, V6}
@@ -15,10 +14,10 @@ use Rattle.text.specs.declared.Parsed.the-variants.{Number, Nothing}
 -- ---- Written
 
 -- 'Tabs part the fields, each line ends in a newline'
-unfoldable pub line : List (List ℕ) → List ℕ
-line [] = 10 ∷ []
-line (field ∷ []) = field ++ 10 ∷ []
-line (field ∷ next ∷ fields) = field ++ 9 ∷ line (next ∷ fields)
+unfoldable pub lineText : List (List ℕ) → List ℕ
+lineText [] = 10 ∷ []
+lineText (field ∷ []) = field ++ 10 ∷ []
+lineText (field ∷ next ∷ fields) = field ++ 9 ∷ lineText (next ∷ fields)
 
 -- the character of a digit: 0 to 9, then a to f
 unfoldable pub digit : ℕ → ℕ
@@ -89,18 +88,3 @@ unfoldable pub hexBytesOf : List ℕ → List ℕ
 hexBytesOf [] = []
 hexBytesOf (c ∷ []) = []
 hexBytesOf (c ∷ e ∷ l) = (digitValue c * 16 + digitValue e) ∷ hexBytesOf l
-
--- the bytes of a text's pairs of digits, up to the first pair that is none
-unfoldable pub hexFront : List ℕ → List ℕ
-hexFront [] = []
-hexFront (c ∷ []) = []
-hexFront (c ∷ e ∷ l) = pick (both (ltb (digitValue c) 16) (ltb (digitValue e) 16)) ((digitValue c * 16 + digitValue e) ∷ hexFront l) []
-
--- a buffer after a text was read into it: those bytes stand at its front
-unfoldable pub hexInto : List ℕ → List ℕ → List ℕ
-hexInto text before = hexFront text ++ drop (length (hexFront text)) before
-
--- a hex text was read into a buffer: the number of its bytes is the answer, or nothing where the text is not hex
-pub record ReadHex (text before after : List ℕ) (read : Parsed) : Type 0 where
-  pub answer : read ≡ pick (isHex text) (Number (length (hexBytesOf text))) Nothing
-  pub is : after ≡ hexInto text before

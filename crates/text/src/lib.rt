@@ -1,18 +1,23 @@
 // Numbers, addresses and bytes as text: decimal without leading zeros, and lower hex. Each is written at the front of lent bytes, and
 // read from a part of lent bytes.
 use address::Address;
+use choice::both;
 ghost use mathlib.Core.Path.{_≡_};
-ghost use Prim.Native.Nat.{_+_, _*_, _<_, _≤_};
+ghost use Prim.Native.Nat.{_+_, _-_, _*_, _/_, _<_, _≤_};
+ghost use lib.Dec.{leb, ltb};
 ghost use lib.ListN.{length};
 ghost use lib.Seq.{slice};
 ghost use Rattle.address.specs.declared.Address.the-variants.{V6};
-ghost use Rattle.wire.specs.Wire.{Wrote, WroteAt};
+ghost use Rattle.wire.specs.Inner.{Wrote, WroteAt};
 ghost use Rattle.text.specs.Text.{digit, digitsOf, decimal, hexWord, addressText, hexBytes};
-ghost use Rattle.text.specs.Text.{digitValue, numberFrom, ofSize, decimalOf, hexWordOf, isHex, ReadHex};
+ghost use Rattle.text.specs.Text.{digitValue, numberFrom, ofSize, decimalOf, hexWordOf, isHex};
+ghost use Rattle.text.specs.Inner.{ReadHex};
+
+pub mod scan;
 
 // ---- Written
 
-pub fn digit(d: u64) -> u8
+pub(crate) fn digit(d: u64) -> u8
     requires { ⌜ d < 16 ⌝ }
     ensures { λ r. ⌜ r ≡ digit d ⌝ }
 {
@@ -137,7 +142,7 @@ pub enum Parsed {
     Nothing,
 }
 
-pub fn digit_value(c: u8) -> u64
+pub(crate) fn digit_value(c: u8) -> u64
     ensures { λ r. ⌜ (r ≡ digitValue c) × (r ≤ 16) ⌝ }
 {
     if c < 48 {
@@ -155,6 +160,27 @@ pub fn digit_value(c: u8) -> u64
     16
 }
 
+fn is_digit(c: u8) -> bool
+    ensures { λ r. ⌜ r ≡ ltb (digitValue c) 16 ⌝ }
+{
+    if c < 58 {
+        48 <= c
+    } else {
+        both(97 <= c, c <= 102)
+    }
+}
+
+// Whether n with a digit more stays below 2^64. Where the base is known, the first bound is a constant.
+fn fits_more(n: u64, base: u64, d: u64) -> bool
+    requires { ⌜ (0 < base) × ((d ≤ 16) × (d < base)) ⌝ }
+    ensures { λ r. ⌜ r ≡ leb n ((18446744073709551615 - d) / base) ⌝ }
+{
+    if n < 18446744073709551615 / base {
+        return true;
+    }
+    n <= (18446744073709551615 - d) / base
+}
+
 // The number whose digits are s from `from` to `to`.
 fn number(s: &[u8], from: usize, to: usize, base: u64) -> Parsed
     requires { ⌜ (0 < base) × ((base ≤ 16) × ((from ≤ to) × (to ≤ length (now s)))) ⌝ }
@@ -167,7 +193,7 @@ fn number(s: &[u8], from: usize, to: usize, base: u64) -> Parsed
         if base <= d {
             return Parsed::Nothing;
         }
-        if (18446744073709551615 - d) / base < n {
+        if !fits_more(n, base, d) {
             return Parsed::Nothing;
         }
         n = n * base + d;
@@ -207,49 +233,45 @@ pub fn read_hex_word(s: &[u8], from: usize) -> Parsed
     number(s, from, from + 8, 16)
 }
 
+// Every character is looked at: without an early return several are tested at once.
 pub fn is_hex(s: &[u8], from: usize, to: usize) -> bool
     requires { ⌜ (from ≤ to) × (to ≤ length (now s)) ⌝ }
     ensures { λ r. ⌜ r ≡ isHex (slice from to (now (s .entry))) ⌝ }
 {
+    let mut good = (to - from) % 2 == 0;
     let mut i = from;
     while i < to {
-        if to - i < 2 {
-            return false;
-        }
-        if 16 <= digit_value(s[i]) {
-            return false;
-        }
-        if 16 <= digit_value(s[i + 1]) {
-            return false;
-        }
-        i += 2;
+        good = both(good, is_digit(s[i]));
+        i += 1;
     }
-    true
+    good
 }
 
-// The bytes whose hex text is s from `from` to `to`, put at the front of out; how many they are. Where the text is not hex, the bytes
-// before the first pair that is none stand there.
+// The value of a character that is a digit: the letters stand in the second half of the 128.
+fn value_of_digit(c: u8) -> u8
+    requires { ⌜ digitValue c < 16 ⌝ }
+    ensures { λ r. ⌜ (r ≡ digitValue c) × (r < 16) ⌝ }
+{
+    c % 16 + 9 * (c / 64)
+}
+
+// The bytes whose hex text is s from `from` to `to`, put at the front of out; how many they are. Where the text is not hex, nothing is
+// written.
 pub fn read_hex_bytes(s: &[u8], from: usize, to: usize, out: &mut [u8]) -> Parsed
     requires { ⌜ (from ≤ to) × ((to ≤ length (now s)) × (to ≤ from + 2 * length (now out))) ⌝ }
     ensures { λ r. ⌜ ReadHex (slice from to (now (s .entry))) (now (out .entry)) (now (out .exit)) r ⌝ }
 {
+    if !is_hex(s, from, to) {
+        return Parsed::Nothing;
+    }
     let n = (to - from) / 2;
     let mut k: usize = 0;
     while k < n {
         let i = from + 2 * k;
-        let high = digit_value(s[i]);
-        if 16 <= high {
-            return Parsed::Nothing;
-        }
-        let low = digit_value(s[i + 1]);
-        if 16 <= low {
-            return Parsed::Nothing;
-        }
-        out[k] = (high * 16 + low) as u8;
+        let high = value_of_digit(s[i]);
+        let low = value_of_digit(s[i + 1]);
+        out[k] = high * 16 + low;
         k += 1;
-    }
-    if 2 * n < to - from {
-        return Parsed::Nothing;
     }
     Parsed::Number(n as u64)
 }

@@ -11,7 +11,8 @@ use lib.Arith.{mod-mul, digits-div, digits-mod, bin-ind}
 use lib.Bits.{bitXor, differ, xor-step, xor-self}
 use borrow.Rule.Slice.PartMut.{midOf, putMid}
 use lib.Dec.{lit<}
-use Rattle.wire.specs.Wire.{num, bytesOf, Wrote}
+use Rattle.wire.specs.Wire.{num, bytesOf}
+use Rattle.wire.specs.Inner.{Wrote}
 
 pub pow-pos : (w : ℕ) → 0 < 256 ^ w
 pow-pos zero = lit< tt

@@ -4,7 +4,8 @@ ghost use mathlib.Core.Path.{_≡_};
 ghost use Prim.Native.Nat.{_+_, _≤_};
 ghost use lib.ListN.{length, replicate};
 ghost use lib.Bits.{bitXor};
-ghost use Rattle.wire.specs.Wire.{num, bytesOf, Wrote, WroteAt, partOf};
+ghost use Rattle.wire.specs.Wire.{num, bytesOf, partOf};
+ghost use Rattle.wire.specs.Inner.{Wrote, WroteAt};
 
 // ---- Read
 

@@ -1,4 +1,4 @@
-use Rattle.address.specs.Address.{sameTransactionId}
+use Rattle.address.specs.Inner.{sameTransactionId}
 use borrow.Author.Needs.{needs}
 use Rattle.address.proofs.same_transaction_id.Statement.{statement}
 use Rattle.address.proofs.same_transaction_id.Tie as tie

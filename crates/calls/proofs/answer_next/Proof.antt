@@ -1,12 +1,12 @@
 -- `calls::answer_next` meets its contract: a walk of its MIR, made by tools/rewalk.
-use Rattle.walk.proofs.Pre.{ℕ, _-_, ftrue, flft, SProp, ent, emp, via, fst∗, id⊢, Lfts, Shares, Fun, givenOf, tables, u64, u8, yes, Is, owns, MutRef, ptr-vals, mut-tells, plain, sliceVal, MutSlice, Room, slice-vals, mut-slice-tells, owned, nothing, onEntry, Args, Vals, Triple, cited, says, Stays, stay-slice, stay-none, walkOf, goes-slice, goes-none, ends-at, walked, stay-ref, goes-ref, Atoms, fullShare, URA, length, [], _∷_, List, refl, sym, _≡_, ap, subst, named, w64, Val, vint, vptr, Memory, Routine, Heap, Calls, Loops, WpFn, FmC, Given, feqL, ‵, _⊛_, ⋆, _$_, _∵_, !, qed, by, move, drop, split, join, fsplit, fjoin, suffices, frame, done, keep, Item, whole, sub, look-in, agg, look, un, init, stop, hop, fld, from, load, of-opd, assigns, returns, enter, alloc1, alloc0, params1, pass1, pass0, free0, and-then, no-more, land, addr, returns-within}
+use Rattle.walk.proofs.Pre.{ℕ, _-_, ftrue, flft, SProp, ent, emp, via, fst∗, id⊢, Lfts, Shares, Fun, givenOf, tables, u64, u8, yes, Is, owns, MutRef, ptr-vals, mut-tells, plain, sliceVal, MutSlice, Room, slice-vals, mut-slice-tells, owned, nothing, onEntry, Args, Vals, Triple, cited, says, Stays, stay-slice, stay-none, walkOf, goes-slice, goes-none, ends-at, walked, stay-ref, goes-ref, Atoms, fullShare, URA, length, [], _∷_, List, refl, sym, _≡_, _∙_, ap, subst, named, w64, Val, vint, vptr, Memory, Routine, Heap, Calls, Loops, WpFn, FmC, Given, feqL, ‵, _⊛_, ⋆, _$_, _∵_, !, qed, by, move, drop, split, join, fsplit, fjoin, suffices, frame, done, keep, Item, whole, sub, look-in, agg, look, un, init, stop, hop, fld, from, load, of-opd, assigns, returns, enter, alloc1, alloc0, params1, pass1, pass0, free0, and-then, no-more, land, addr, returns-within}
 use Rattle.walk.proofs.Walk.{uint-row, bool-row, ref, asks-none, Of, tokens, calls-any, calls-value, out, out-room, guards, tells-none, says-none, framed-calls, finish}
-use Rattle.walk.proofs.Lends.{lend-slice, back-slice, lend-ref, back-ref, show-slice, hide-slice, calls-lent, calls-shown}
+use Rattle.walk.proofs.Lends.{lend-slice, back-slice, lend-ref, back-ref, show-slice, hide-slice, calls-lent}
 use Rattle.calls.proofs.Rows.{window-row, window-typed}
 use Rattle.relay.specs.declared.state.Bookkeeping.{Bookkeeping}
 use Rattle.relay.proofs.state.Bookkeeping as Bookkeeping-t
-use Rattle.table.specs.declared.Slot.{Slot}
-use Rattle.table.proofs.Slot as Slot-t
+use Rattle.slot.specs.declared.Slot.{Slot}
+use Rattle.slot.proofs.Slot as Slot-t
 use Rattle.calls.specs.declared.Window.{Window}
 use Rattle.calls.proofs.Window as Window-t
 use Rattle.calls.proofs.next_line as next-line
@@ -29,10 +29,10 @@ use Rattle.script.proofs.run_line as run-line
 use Rattle.script.proofs.run_line.Symbol as run-line-def
 use Rattle.script.proofs.run_line.Symbol.{name as #script·run-line}
 use Rattle.script.proofs.run_line.Met as run-line-thm
-use Rattle.calls.proofs.written as written
-use Rattle.calls.proofs.written.Symbol as written-def
-use Rattle.calls.proofs.written.Symbol.{name as #calls·written}
-use Rattle.calls.proofs.written.Met as written-thm
+use Rattle.calls.proofs.gather as gather
+use Rattle.calls.proofs.gather.Symbol as gather-def
+use Rattle.calls.proofs.gather.Symbol.{name as #calls·gather}
+use Rattle.calls.proofs.gather.Met as gather-thm
 use Rattle.calls.proofs.answer_next.Key.{name as #calls·answer-next}
 use Rattle.calls.proofs.answer_next as answer-next
 use Rattle.calls.proofs.answer_next.Statement as stated
@@ -99,62 +99,68 @@ module _ {M : Type 1} (𝓤 : URA M) (H : Heap 𝓤) (A : Atoms 𝓤) (W : Given
       nothing ! $ move ! (8 ∷ 0 ∷ []) $ join ! $ move ! (6 ∷ 0 ∷ []) $ join ! $ move ! (4 ∷ 0 ∷ []) $ join ! $ move ! (2 ∷ 0 ∷ []) $ join ! $ frame ! $
       nothing ! $ owned ! Window-t.the-row (Is Window-t.the-row) (window-row .makes 𝓤 H A W) last _ is-last $ fjoin ! $ move ! (4 ∷ 0 ∷ []) $ fjoin ! $ move ! (3 ∷ 0 ∷ []) $ fjoin ! $ move ! (2 ∷ 0 ∷ []) $ fjoin ! $ move ! (1 ∷ 0 ∷ []) $ fjoin ! $ frame ! $ owned ! Window-t.the-row (Is Window-t.the-row) (window-row .makes 𝓤 H A W) r _ is $ done !
 
-  module _ (C : Calls 𝓤 H) (Λ : Loops 𝓤 H) (fm : FmC 𝓤 H (W .laws) C) (known-next-line : Triple 𝓤 (C #calls·next-line) (Of 𝓤 H A next-line.ended (next-line.clauses 𝓤 H A mem run))) (known-is-line : Triple 𝓤 (C #calls·is-line) (Of 𝓤 H A is-line.ended (is-line.clauses 𝓤 H A mem run))) (known-line-start : Triple 𝓤 (C #calls·line-start) (Of 𝓤 H A line-start.ended (line-start.clauses 𝓤 H A mem run))) (known-line-end : Triple 𝓤 (C #calls·line-end) (Of 𝓤 H A line-end.ended (line-end.clauses 𝓤 H A mem run))) (known-run-line : Triple 𝓤 (C #script·run-line) (Of 𝓤 H A run-line.ended (run-line.clauses 𝓤 H A mem run))) (known-written : Triple 𝓤 (C #calls·written) (Of 𝓤 H A written.ended (written.clauses 𝓤 H A mem run))) where
+  module _ (C : Calls 𝓤 H) (Λ : Loops 𝓤 H) (fm : FmC 𝓤 H (W .laws) C) (known-next-line : Triple 𝓤 (C #calls·next-line) (Of 𝓤 H A next-line.ended (next-line.clauses 𝓤 H A mem run))) (known-is-line : Triple 𝓤 (C #calls·is-line) (Of 𝓤 H A is-line.ended (is-line.clauses 𝓤 H A mem run))) (known-line-start : Triple 𝓤 (C #calls·line-start) (Of 𝓤 H A line-start.ended (line-start.clauses 𝓤 H A mem run))) (known-line-end : Triple 𝓤 (C #calls·line-end) (Of 𝓤 H A line-end.ended (line-end.clauses 𝓤 H A mem run))) (known-run-line : Triple 𝓤 (C #script·run-line) (Of 𝓤 H A run-line.ended (run-line.clauses 𝓤 H A mem run))) (known-gather : Triple 𝓤 (C #calls·gather) (Of 𝓤 H A gather.ended (gather.clauses 𝓤 H A mem run))) where
     walk : Room Slot-t.the-row (length slots) → Room u8 (length input) → Room u8 (length output) → ent 𝓤 (onEntry 𝓤 H A answer-next.signature κs qs a at) (WpFn 𝓤 H C Λ code.function (sliceVal (a .0 .ptr) (length slots) ∷ vptr (a .1 .0 .ptr .0) (a .1 .0 .ptr .1) ∷ sliceVal (a .1 .1 .0 .ptr) (length input) ∷ sliceVal (a .1 .1 .1 .0 .ptr) (length output) ∷ window-row .val last ∷ []) Post)
     walk room-slots room-input room-output =
         qed W ((t0 ⊛ (t1 ⊛ (t2 ⊛ (t3 ⊛ ‵ ftrue)))) ∷ ‵ (owns (MutSlice (named 0) (κs .0) Slot-t.the-row ∷ MutRef (named 1) (κs .1 .0) Bookkeeping-t.the-row ∷ MutSlice (named 2) (κs .1 .1 .0) u8 ∷ MutSlice (named 3) (κs .1 .1 .1 .0) u8 ∷ Window-t.the-row ∷ []) a at) ∷ []) ∵
         split ! $ move ! (1 ∷ []) $ split ! $ move ! (1 ∷ []) $ split ! $ move ! (1 ∷ []) $ split ! $ move ! (5 ∷ []) $ fsplit ! $ move ! (1 ∷ []) $ fsplit ! $ move ! (1 ∷ []) $ fsplit ! $ move ! (1 ∷ []) $ fsplit ! $ move ! (1 ∷ []) $ fsplit ! $ drop ! $ keep ! (4 ∷ 9 ∷ 3 ∷ 8 ∷ 2 ∷ 7 ∷ 1 ∷ 5 ∷ []) $
         enter ! C Λ code.function (sliceVal (a .0 .ptr) (length slots) ∷ vptr (a .1 .0 .ptr .0) (a .1 .0 .ptr .1) ∷ sliceVal (a .1 .1 .0 .ptr) (length input) ∷ sliceVal (a .1 .1 .1 .0 .ptr) (length output) ∷ window-row .val last ∷ []) _ $
-        alloc1 ! (λ l₀. alloc1 ! (λ l₁. alloc1 ! (λ l₂. alloc1 ! (λ l₃. alloc1 ! (λ l₄. alloc1 ! (λ l₅. alloc1 ! (λ l₆. alloc1 ! (λ l₇. alloc1 ! (λ l₈. alloc1 ! (λ l₉. alloc1 ! (λ l₁₀. alloc1 ! (λ l₁₁. alloc1 ! (λ l₁₂. alloc1 ! (λ l₁₃. alloc1 ! (λ l₁₄. alloc1 ! (λ l₁₅. alloc1 ! (λ l₁₆. alloc1 ! (λ l₁₇. alloc1 ! (λ l₁₈. alloc1 ! (λ l₁₉. alloc1 ! (λ l₂₀. alloc1 ! (λ l₂₁. alloc1 ! (λ l₂₂. alloc0 ! $ params1 ! $
-        pass1 ! (init ! 42 refl (tt, (tt, (record { fits = room-slots .0 }, tt)))) $ pass1 ! (init ! 40 refl (tt, tt)) $ pass1 ! (init ! 38 refl (tt, (tt, (record { fits = room-input .0 }, tt)))) $ pass1 ! (init ! 36 refl (tt, (tt, (record { fits = room-output .0 }, tt)))) $ pass1 ! (init ! 34 refl (window-typed 𝓤 H A W last is-last)) $ pass0 ! $
-        -- the references and their tokens first: from here local k stands at 52 - 2 k
-        move ! (46 ∷ 47 ∷ 48 ∷ 49 ∷ 50 ∷ 51 ∷ 52 ∷ 53 ∷ []) $
-        assigns ! (addr ! (from ! (fld ! refl (hop ! (look-in ! 46 (sub ! 0 refl (whole !))) (stop !))))) (from ! (stop !)) (init ! 36 refl (tt, tt)) $
-        assigns ! (agg ! (and-then ! (load ! (from ! (stop !)) (look ! 36 refl)) (and-then ! (load ! (from ! (fld ! refl (stop !))) (look-in ! 46 (sub ! 1 refl (whole !)))) (no-more !)))) (from ! (stop !)) (init ! 34 refl (tt, (tt, (record { fits = room-input .0 }, tt)))) $
+        alloc1 ! (λ l₀. alloc1 ! (λ l₁. alloc1 ! (λ l₂. alloc1 ! (λ l₃. alloc1 ! (λ l₄. alloc1 ! (λ l₅. alloc1 ! (λ l₆. alloc1 ! (λ l₇. alloc1 ! (λ l₈. alloc1 ! (λ l₉. alloc1 ! (λ l₁₀. alloc1 ! (λ l₁₁. alloc1 ! (λ l₁₂. alloc1 ! (λ l₁₃. alloc1 ! (λ l₁₄. alloc1 ! (λ l₁₅. alloc1 ! (λ l₁₆. alloc1 ! (λ l₁₇. alloc1 ! (λ l₁₈. alloc1 ! (λ l₁₉. alloc1 ! (λ l₂₀. alloc1 ! (λ l₂₁. alloc1 ! (λ l₂₂. alloc1 ! (λ l₂₃. alloc1 ! (λ l₂₄. alloc0 ! $ params1 ! $
+        pass1 ! (init ! 46 refl (tt, (tt, (record { fits = room-slots .0 }, tt)))) $ pass1 ! (init ! 44 refl (tt, tt)) $ pass1 ! (init ! 42 refl (tt, (tt, (record { fits = room-input .0 }, tt)))) $ pass1 ! (init ! 40 refl (tt, (tt, (record { fits = room-output .0 }, tt)))) $ pass1 ! (init ! 38 refl (window-typed 𝓤 H A W last is-last)) $ pass0 ! $
+        -- the references and their tokens first: from here local k stands at 56 - 2 k
+        move ! (50 ∷ 51 ∷ 52 ∷ 53 ∷ 54 ∷ 55 ∷ 56 ∷ 57 ∷ []) $
+        assigns ! (addr ! (from ! (fld ! refl (hop ! (look-in ! 50 (sub ! 0 refl (whole !))) (stop !))))) (from ! (stop !)) (init ! 40 refl (tt, tt)) $
+        assigns ! (agg ! (and-then ! (load ! (from ! (stop !)) (look ! 40 refl)) (and-then ! (load ! (from ! (fld ! refl (stop !))) (look-in ! 50 (sub ! 1 refl (whole !)))) (no-more !)))) (from ! (stop !)) (init ! 38 refl (tt, (tt, (record { fits = room-input .0 }, tt)))) $
+        assigns ! (addr ! (from ! (fld ! refl (hop ! (look-in ! 48 (sub ! 0 refl (whole !))) (stop !))))) (from ! (stop !)) (init ! 36 refl (tt, tt)) $
+        assigns ! (agg ! (and-then ! (load ! (from ! (stop !)) (look ! 36 refl)) (and-then ! (load ! (from ! (fld ! refl (stop !))) (look-in ! 48 (sub ! 1 refl (whole !)))) (no-more !)))) (from ! (stop !)) (init ! 34 refl (tt, (tt, (record { fits = room-output .0 }, tt)))) $
         -- `next_line`
-        move ! (4 ∷ 5 ∷ []) $
-        calls-lent ! fm u8 window-row (next-line.clauses 𝓤 H A mem run) (λ r zs. Unit {0}) (named 2) (a .1 .1 .0 .ptr .0) (a .1 .1 .0 .ptr .1) input (sliceVal (a .1 .1 .0 .ptr) (length input)) (λ ν. (last, tt)) (λ ν. (window-row, tt)) (λ ν δ. tt) known-next-line (λ ν. (is-last, tt)) (λ ν δ. (asks-none 𝓤 H A)) (λ ν δ r ws. tells-none 𝓤)
-        (λ ν δ. (and-then ! (load ! (from ! (stop !)) (look ! 34 refl)) (and-then ! (load ! (from ! (stop !)) (look ! 42 refl)) (no-more !)))) (λ r-next-line zs-next-line l-next-line is-next-line e-next-line. land ! (from ! (stop !)) (init ! 40 refl (window-typed 𝓤 H A W r-next-line is-next-line)) $
+        move ! (6 ∷ 7 ∷ []) $ show-slice ! tt u8 (named 3) (named 1) (a .1 .1 .1 .0 .ptr .0) (a .1 .1 .1 .0 .ptr .1) output (sliceVal (a .1 .1 .1 .0 .ptr) (length output)) (λ ν-next-line-output δ-next-line-output.
+        move ! (8 ∷ 9 ∷ []) $ lend-slice ! tt u8 (named 2) (named 0) (a .1 .1 .0 .ptr .0) (a .1 .1 .0 .ptr .1) input (sliceVal (a .1 .1 .0 .ptr) (length input)) (λ ν-next-line-input δ-next-line-input.
+        nothing ! $ move ! (6 ∷ 0 ∷ []) $ join ! $ move ! (2 ∷ 0 ∷ []) $ join ! $ nothing ! $ owned ! Window-t.the-row (Is Window-t.the-row) (window-row .makes 𝓤 H A W) last _ is-last $ fjoin ! $ move ! (5 ∷ 0 ∷ []) $ fjoin ! $ move ! (2 ∷ 0 ∷ []) $ fjoin ! $ move ! (1 ∷ 0 ∷ []) $
+        calls-any ! fm next-line.ended (next-line.clauses 𝓤 H A mem run) (ν-next-line-input ∷ [], (ν-next-line-output ∷ [], tt)) (fullShare, (fullShare, tt)) tt window-row (ref (a .1 .1 .0 .ptr .0) (a .1 .1 .0 .ptr .1) δ-next-line-input input, (ref (a .1 .1 .1 .0 .ptr .0) (a .1 .1 .1 .0 .ptr .1) δ-next-line-output output, (last, tt))) (sliceVal (a .1 .1 .0 .ptr) (length input) ∷ [], (sliceVal (a .1 .1 .1 .0 .ptr) (length output) ∷ [], (window-row .val last ∷ [], tt))) tt (λ r ws. Unit {0}) known-next-line (asks-none 𝓤 H A) (λ r ws. tells-none 𝓤)
+        (and-then ! (load ! (from ! (stop !)) (look ! 39 refl)) (and-then ! (load ! (from ! (stop !)) (look ! 35 refl)) (and-then ! (load ! (from ! (stop !)) (look ! 47 refl)) (no-more !)))) (λ r-next-line ws-next-line is-next-line e-next-line.
+        split ! $ move ! (1 ∷ []) $ split ! $ move ! (1 ∷ []) $ drop ! $ move ! (2 ∷ []) $ fsplit ! $ fsplit ! $ move ! (1 ∷ []) $ feqL ! (λ l-next-line-input. move ! (0 ∷ 3 ∷ 4 ∷ 5 ∷ []) $ back-slice ! tt u8 (named 2) (a .1 .1 .0 .ptr .0) (a .1 .1 .0 .ptr .1) input (ws-next-line .0) (sliceVal (a .1 .1 .0 .ptr) (length input)) l-next-line-input refl room-input $ move ! (2 ∷ []) $ fsplit ! $ drop ! $ move ! (3 ∷ 4 ∷ 5 ∷ []) $ hide-slice ! tt u8 (named 3) (a .1 .1 .1 .0 .ptr .0) (a .1 .1 .1 .0 .ptr .1) output (sliceVal (a .1 .1 .1 .0 .ptr) (length output)) refl room-output $ move ! (2 ∷ []) $ fsplit ! $ drop ! $ drop ! $
+        land ! (from ! (stop !)) (init ! 44 refl (window-typed 𝓤 H A W r-next-line is-next-line)) $
         -- `is_line`
         calls-value ! fm bool-row (is-line.clauses 𝓤 H A mem run) (λ r. Unit {0}) (window-row, tt) (r-next-line, tt) tt known-is-line (is-next-line, tt) (asks-none 𝓤 H A) (λ r ws. tells-none 𝓤)
-        (and-then ! (load ! (from ! (stop !)) (look ! 41 refl)) (no-more !)) (λ r-is-line is-is-line e-is-line. land ! (from ! (stop !)) (init ! 32 refl (tt, tt)) $
+        (and-then ! (load ! (from ! (stop !)) (look ! 45 refl)) (no-more !)) (λ r-is-line is-is-line e-is-line. land ! (from ! (stop !)) (init ! 32 refl (tt, tt)) $
         assigns ! (un ! (load ! (from ! (stop !)) (look ! 32 refl)) tt) (from ! (stop !)) (init ! 30 refl (tt, tt)) $
         guards ! (load ! (from ! (stop !)) (look ! 30 refl))
         (λ held.
-        assigns ! (of-opd ! (load ! (from ! (stop !)) (look ! 40 refl))) (from ! (stop !)) (init ! 52 refl (window-typed 𝓤 H A W r-next-line is-next-line)) $
-        returns-within ! Post refl (look ! 52 refl) $ out ! 52 refl refl $ out ! 50 refl refl $ out ! 48 refl refl $ out ! 46 refl refl $ out ! 44 refl refl $ out ! 42 refl refl $ out ! 40 refl refl $ out-room ! 38 refl refl $ out ! 36 refl refl $ out ! 34 refl refl $ out ! 32 refl refl $ out ! 30 refl refl $ out-room ! 28 refl refl $ out-room ! 26 refl refl $ out-room ! 24 refl refl $ out-room ! 22 refl refl $ out-room ! 20 refl refl $ out-room ! 18 refl refl $ out-room ! 16 refl refl $ out-room ! 14 refl refl $ out-room ! 12 refl refl $ out-room ! 10 refl refl $ out-room ! 8 refl refl $ free0 ! $
-        keep ! (2 ∷ 3 ∷ 4 ∷ 5 ∷ 0 ∷ 1 ∷ 6 ∷ 7 ∷ []) $ by ! (exits r-next-line slots now-bookkeeping zs-next-line output tt refl l-next-line refl is-next-line))
+        assigns ! (of-opd ! (load ! (from ! (stop !)) (look ! 44 refl))) (from ! (stop !)) (init ! 56 refl (window-typed 𝓤 H A W r-next-line is-next-line)) $
+        returns-within ! Post refl (look ! 56 refl) $ out ! 56 refl refl $ out ! 54 refl refl $ out ! 52 refl refl $ out ! 50 refl refl $ out ! 48 refl refl $ out ! 46 refl refl $ out ! 44 refl refl $ out-room ! 42 refl refl $ out ! 40 refl refl $ out ! 38 refl refl $ out ! 36 refl refl $ out ! 34 refl refl $ out ! 32 refl refl $ out ! 30 refl refl $ out-room ! 28 refl refl $ out-room ! 26 refl refl $ out-room ! 24 refl refl $ out-room ! 22 refl refl $ out-room ! 20 refl refl $ out-room ! 18 refl refl $ out-room ! 16 refl refl $ out-room ! 14 refl refl $ out-room ! 12 refl refl $ out-room ! 10 refl refl $ out-room ! 8 refl refl $ free0 ! $
+        keep ! (4 ∷ 5 ∷ 6 ∷ 7 ∷ 2 ∷ 3 ∷ 0 ∷ 1 ∷ []) $ by ! (exits r-next-line slots now-bookkeeping (ws-next-line .0) output tt refl l-next-line-input refl is-next-line))
         (λ failed.
-        assigns ! (addr ! (from ! (fld ! refl (hop ! (look-in ! 50 (sub ! 0 refl (whole !))) (stop !))))) (from ! (stop !)) (init ! 28 refl (tt, tt)) $
-        assigns ! (agg ! (and-then ! (load ! (from ! (stop !)) (look ! 28 refl)) (and-then ! (load ! (from ! (fld ! refl (stop !))) (look-in ! 50 (sub ! 1 refl (whole !)))) (no-more !)))) (from ! (stop !)) (init ! 26 refl (tt, (tt, (record { fits = room-slots .0 }, tt)))) $
-        assigns ! (addr ! (from ! (hop ! (look ! 48 refl) (stop !)))) (from ! (stop !)) (init ! 24 refl (tt, tt)) $
-        assigns ! (addr ! (from ! (fld ! refl (hop ! (look-in ! 46 (sub ! 0 refl (whole !))) (stop !))))) (from ! (stop !)) (init ! 22 refl (tt, tt)) $
-        assigns ! (agg ! (and-then ! (load ! (from ! (stop !)) (look ! 22 refl)) (and-then ! (load ! (from ! (fld ! refl (stop !))) (look-in ! 46 (sub ! 1 refl (whole !)))) (no-more !)))) (from ! (stop !)) (init ! 20 refl (tt, (tt, (record { fits = room-input .0 }, tt)))) $
+        assigns ! (addr ! (from ! (fld ! refl (hop ! (look-in ! 54 (sub ! 0 refl (whole !))) (stop !))))) (from ! (stop !)) (init ! 28 refl (tt, tt)) $
+        assigns ! (agg ! (and-then ! (load ! (from ! (stop !)) (look ! 28 refl)) (and-then ! (load ! (from ! (fld ! refl (stop !))) (look-in ! 54 (sub ! 1 refl (whole !)))) (no-more !)))) (from ! (stop !)) (init ! 26 refl (tt, (tt, (record { fits = room-slots .0 }, tt)))) $
+        assigns ! (addr ! (from ! (hop ! (look ! 52 refl) (stop !)))) (from ! (stop !)) (init ! 24 refl (tt, tt)) $
+        assigns ! (addr ! (from ! (fld ! refl (hop ! (look-in ! 50 (sub ! 0 refl (whole !))) (stop !))))) (from ! (stop !)) (init ! 22 refl (tt, tt)) $
+        assigns ! (agg ! (and-then ! (load ! (from ! (stop !)) (look ! 22 refl)) (and-then ! (load ! (from ! (fld ! refl (stop !))) (look-in ! 50 (sub ! 1 refl (whole !)))) (no-more !)))) (from ! (stop !)) (init ! 20 refl (tt, (tt, (record { fits = room-input .0 }, tt)))) $
         -- `line_start`
         calls-value ! fm (uint-row w64) (line-start.clauses 𝓤 H A mem run) (λ r. Unit {0}) (window-row, tt) (r-next-line, tt) tt known-line-start (is-next-line, tt) (asks-none 𝓤 H A) (λ r ws. tells-none 𝓤)
-        (and-then ! (load ! (from ! (stop !)) (look ! 41 refl)) (no-more !)) (λ r-line-start is-line-start e-line-start. land ! (from ! (stop !)) (init ! 18 refl (tt, record { fits = is-line-start .1 })) $
+        (and-then ! (load ! (from ! (stop !)) (look ! 45 refl)) (no-more !)) (λ r-line-start is-line-start e-line-start. land ! (from ! (stop !)) (init ! 18 refl (tt, record { fits = is-line-start .1 })) $
         -- `line_end`
         calls-value ! fm (uint-row w64) (line-end.clauses 𝓤 H A mem run) (λ r. Unit {0}) (window-row, tt) (r-next-line, tt) tt known-line-end (is-next-line, tt) (asks-none 𝓤 H A) (λ r ws. tells-none 𝓤)
-        (and-then ! (load ! (from ! (stop !)) (look ! 41 refl)) (no-more !)) (λ r-line-end is-line-end e-line-end. land ! (from ! (stop !)) (init ! 16 refl (tt, record { fits = is-line-end .1 })) $
-        assigns ! (addr ! (from ! (fld ! refl (hop ! (look-in ! 44 (sub ! 0 refl (whole !))) (stop !))))) (from ! (stop !)) (init ! 14 refl (tt, tt)) $
-        assigns ! (agg ! (and-then ! (load ! (from ! (stop !)) (look ! 14 refl)) (and-then ! (load ! (from ! (fld ! refl (stop !))) (look-in ! 44 (sub ! 1 refl (whole !)))) (no-more !)))) (from ! (stop !)) (init ! 12 refl (tt, (tt, (record { fits = room-output .0 }, tt)))) $
+        (and-then ! (load ! (from ! (stop !)) (look ! 45 refl)) (no-more !)) (λ r-line-end is-line-end e-line-end. land ! (from ! (stop !)) (init ! 16 refl (tt, record { fits = is-line-end .1 })) $
+        assigns ! (addr ! (from ! (fld ! refl (hop ! (look-in ! 48 (sub ! 0 refl (whole !))) (stop !))))) (from ! (stop !)) (init ! 14 refl (tt, tt)) $
+        assigns ! (agg ! (and-then ! (load ! (from ! (stop !)) (look ! 14 refl)) (and-then ! (load ! (from ! (fld ! refl (stop !))) (look-in ! 48 (sub ! 1 refl (whole !)))) (no-more !)))) (from ! (stop !)) (init ! 12 refl (tt, (tt, (record { fits = room-output .0 }, tt)))) $
         -- `run_line`
-        move ! (6 ∷ 7 ∷ []) $ lend-slice ! tt u8 (named 3) (named 3) (a .1 .1 .1 .0 .ptr .0) (a .1 .1 .1 .0 .ptr .1) output (sliceVal (a .1 .1 .1 .0 .ptr) (length output)) (λ ν-run-line-output δ-run-line-output.
-        move ! (4 ∷ 5 ∷ []) $ show-slice ! tt u8 (named 2) (named 2) (a .1 .1 .0 .ptr .0) (a .1 .1 .0 .ptr .1) zs-next-line (sliceVal (a .1 .1 .0 .ptr) (length input)) (λ ν-run-line-input δ-run-line-input.
+        lend-slice ! tt u8 (named 3) (named 3) (a .1 .1 .1 .0 .ptr .0) (a .1 .1 .1 .0 .ptr .1) output (sliceVal (a .1 .1 .1 .0 .ptr) (length output)) (λ ν-run-line-output δ-run-line-output.
+        move ! (4 ∷ 5 ∷ []) $ show-slice ! tt u8 (named 2) (named 2) (a .1 .1 .0 .ptr .0) (a .1 .1 .0 .ptr .1) (ws-next-line .0) (sliceVal (a .1 .1 .0 .ptr) (length input)) (λ ν-run-line-input δ-run-line-input.
         move ! (10 ∷ 11 ∷ []) $ lend-ref ! tt Bookkeeping-t.the-row (named 1) (named 1) (a .1 .0 .ptr .0) (a .1 .0 .ptr .1) now-bookkeeping (λ ν-run-line-bookkeeping δ-run-line-bookkeeping.
         move ! (12 ∷ 13 ∷ []) $ lend-slice ! tt Slot-t.the-row (named 0) (named 0) (a .0 .ptr .0) (a .0 .ptr .1) slots (sliceVal (a .0 .ptr) (length slots)) (λ ν-run-line-slots δ-run-line-slots.
         nothing ! $ move ! (14 ∷ 0 ∷ []) $ join ! $ move ! (10 ∷ 0 ∷ []) $ join ! $ move ! (6 ∷ 0 ∷ []) $ join ! $ move ! (2 ∷ 0 ∷ []) $ join ! $ nothing ! $ move ! (11 ∷ 0 ∷ []) $ fjoin ! $ owned ! u64 (Is u64) ((uint-row w64) .makes 𝓤 H A W) r-line-end _ (refl, is-line-end .1) $ fjoin ! $ owned ! u64 (Is u64) ((uint-row w64) .makes 𝓤 H A W) r-line-start _ (refl, is-line-start .1) $ fjoin ! $ move ! (8 ∷ 0 ∷ []) $ fjoin ! $ move ! (5 ∷ 0 ∷ []) $ fjoin ! $ move ! (2 ∷ 0 ∷ []) $ fjoin ! $ move ! (1 ∷ 0 ∷ []) $
-        calls-any ! fm run-line.ended (run-line.clauses 𝓤 H A mem run) (ν-run-line-slots ∷ [], (ν-run-line-bookkeeping ∷ [], (ν-run-line-input ∷ [], (ν-run-line-output ∷ [], tt)))) (fullShare, (fullShare, (fullShare, (fullShare, tt)))) tt (uint-row w64) (ref (a .0 .ptr .0) (a .0 .ptr .1) δ-run-line-slots slots, (ref (a .1 .0 .ptr .0) (a .1 .0 .ptr .1) δ-run-line-bookkeeping now-bookkeeping, (ref (a .1 .1 .0 .ptr .0) (a .1 .1 .0 .ptr .1) δ-run-line-input zs-next-line, (r-line-start, (r-line-end, (ref (a .1 .1 .1 .0 .ptr .0) (a .1 .1 .1 .0 .ptr .1) δ-run-line-output output, tt)))))) (sliceVal (a .0 .ptr) (length slots) ∷ [], (vptr (a .1 .0 .ptr .0) (a .1 .0 .ptr .1) ∷ [], (sliceVal (a .1 .1 .0 .ptr) (length input) ∷ [], (vint w64 r-line-start ∷ [], (vint w64 r-line-end ∷ [], (sliceVal (a .1 .1 .1 .0 .ptr) (length output) ∷ [], tt)))))) tt (λ r ws. _) known-run-line (asks-none 𝓤 H A) (λ r ws. id⊢ 𝓤 _)
+        calls-any ! fm run-line.ended (run-line.clauses 𝓤 H A mem run) (ν-run-line-slots ∷ [], (ν-run-line-bookkeeping ∷ [], (ν-run-line-input ∷ [], (ν-run-line-output ∷ [], tt)))) (fullShare, (fullShare, (fullShare, (fullShare, tt)))) tt (uint-row w64) (ref (a .0 .ptr .0) (a .0 .ptr .1) δ-run-line-slots slots, (ref (a .1 .0 .ptr .0) (a .1 .0 .ptr .1) δ-run-line-bookkeeping now-bookkeeping, (ref (a .1 .1 .0 .ptr .0) (a .1 .1 .0 .ptr .1) δ-run-line-input (ws-next-line .0), (r-line-start, (r-line-end, (ref (a .1 .1 .1 .0 .ptr .0) (a .1 .1 .1 .0 .ptr .1) δ-run-line-output output, tt)))))) (sliceVal (a .0 .ptr) (length slots) ∷ [], (vptr (a .1 .0 .ptr .0) (a .1 .0 .ptr .1) ∷ [], (sliceVal (a .1 .1 .0 .ptr) (length input) ∷ [], (vint w64 r-line-start ∷ [], (vint w64 r-line-end ∷ [], (sliceVal (a .1 .1 .1 .0 .ptr) (length output) ∷ [], tt)))))) tt (λ r ws. _) known-run-line (asks-none 𝓤 H A) (λ r ws. id⊢ 𝓤 _)
         (and-then ! (load ! (from ! (stop !)) (look ! 27 refl)) (and-then ! (load ! (from ! (stop !)) (look ! 25 refl)) (and-then ! (load ! (from ! (stop !)) (look ! 21 refl)) (and-then ! (load ! (from ! (stop !)) (look ! 19 refl)) (and-then ! (load ! (from ! (stop !)) (look ! 17 refl)) (and-then ! (load ! (from ! (stop !)) (look ! 13 refl)) (no-more !))))))) (λ r-run-line ws-run-line is-run-line e-run-line.
-        split ! $ move ! (1 ∷ []) $ split ! $ move ! (1 ∷ []) $ split ! $ move ! (1 ∷ []) $ split ! $ move ! (1 ∷ []) $ drop ! $ move ! (4 ∷ []) $ fsplit ! $ fsplit ! $ move ! (1 ∷ []) $ feqL ! (λ l-run-line-slots. move ! (0 ∷ 5 ∷ 6 ∷ 7 ∷ []) $ back-slice ! tt Slot-t.the-row (named 0) (a .0 .ptr .0) (a .0 .ptr .1) slots (ws-run-line .0) (sliceVal (a .0 .ptr) (length slots)) l-run-line-slots refl room-slots $ move ! (2 ∷ []) $ fsplit ! $ move ! (0 ∷ 6 ∷ 7 ∷ 8 ∷ []) $ back-ref ! tt Bookkeeping-t.the-row (named 1) (a .1 .0 .ptr .0) (a .1 .0 .ptr .1) now-bookkeeping (ws-run-line .1 .0) $ move ! (2 ∷ []) $ fsplit ! $ drop ! $ move ! (6 ∷ 7 ∷ 8 ∷ []) $ hide-slice ! tt u8 (named 2) (a .1 .1 .0 .ptr .0) (a .1 .1 .0 .ptr .1) zs-next-line (sliceVal (a .1 .1 .0 .ptr) (length input)) (ap (sliceVal (a .1 .1 .0 .ptr)) (sym l-next-line)) (subst (Room u8) (sym l-next-line) room-input) $ move ! (2 ∷ []) $ fsplit ! $ drop ! $ fsplit ! $ drop ! $ fsplit ! $ fsplit ! $ move ! (1 ∷ []) $ feqL ! (λ l-run-line-output. move ! (0 ∷ 8 ∷ 9 ∷ 10 ∷ []) $ back-slice ! tt u8 (named 3) (a .1 .1 .1 .0 .ptr .0) (a .1 .1 .1 .0 .ptr .1) output (ws-run-line .1 .1 .1 .1 .1 .0) (sliceVal (a .1 .1 .1 .0 .ptr) (length output)) l-run-line-output refl room-output $ move ! (2 ∷ []) $ drop ! $
-        land ! (from ! (stop !)) (init ! 38 refl (tt, record { fits = is-run-line .1 })) $
-        assigns ! (addr ! (from ! (fld ! refl (hop ! (look-in ! 44 (sub ! 0 refl (whole !))) (stop !))))) (from ! (stop !)) (init ! 10 refl (tt, tt)) $
-        assigns ! (agg ! (and-then ! (load ! (from ! (stop !)) (look ! 10 refl)) (and-then ! (load ! (from ! (fld ! refl (stop !))) (look-in ! 44 (sub ! 1 refl (whole !)))) (no-more !)))) (from ! (stop !)) (init ! 8 refl (tt, (tt, (record { fits = room-output .0 }, tt)))) $
-        -- `written`
-        calls-shown ! fm u8 window-row (written.clauses 𝓤 H A mem run) (λ r. Unit {0}) (named 3) (a .1 .1 .1 .0 .ptr .0) (a .1 .1 .1 .0 .ptr .1) (ws-run-line .1 .1 .1 .1 .1 .0) (sliceVal (a .1 .1 .1 .0 .ptr) (length output)) (λ ν. (r-run-line, (r-next-line, tt))) (λ ν. (uint-row w64, (window-row, tt))) (λ ν δ. tt) known-written (λ ν. ((refl, is-run-line .1), (is-next-line, tt))) (λ ν δ. (asks-none 𝓤 H A)) (λ ν δ r ws. tells-none 𝓤)
-        (λ ν δ. (and-then ! (load ! (from ! (stop !)) (look ! 8 refl)) (and-then ! (load ! (from ! (stop !)) (look ! 38 refl)) (and-then ! (load ! (from ! (stop !)) (look ! 40 refl)) (no-more !))))) (λ r-written is-written e-written. land ! (from ! (stop !)) (init ! 52 refl (window-typed 𝓤 H A W r-written is-written)) $
-        returns ! (look ! 52 refl) $ out ! 52 refl refl $ out ! 50 refl refl $ out ! 48 refl refl $ out ! 46 refl refl $ out ! 44 refl refl $ out ! 42 refl refl $ out ! 40 refl refl $ out ! 38 refl refl $ out ! 36 refl refl $ out ! 34 refl refl $ out ! 32 refl refl $ out ! 30 refl refl $ out ! 28 refl refl $ out ! 26 refl refl $ out ! 24 refl refl $ out ! 22 refl refl $ out ! 20 refl refl $ out ! 18 refl refl $ out ! 16 refl refl $ out ! 14 refl refl $ out ! 12 refl refl $ out ! 10 refl refl $ out ! 8 refl refl $ free0 ! $
-        keep ! (6 ∷ 7 ∷ 4 ∷ 5 ∷ 2 ∷ 3 ∷ 0 ∷ 1 ∷ []) $ by ! (exits r-written (ws-run-line .0) (ws-run-line .1 .0) zs-next-line (ws-run-line .1 .1 .1 .1 .1 .0) tt l-run-line-slots l-next-line l-run-line-output is-written)))))))))))))))))))))))))))))))))))))
+        split ! $ move ! (1 ∷ []) $ split ! $ move ! (1 ∷ []) $ split ! $ move ! (1 ∷ []) $ split ! $ move ! (1 ∷ []) $ drop ! $ move ! (4 ∷ []) $ fsplit ! $ fsplit ! $ move ! (1 ∷ []) $ feqL ! (λ l-run-line-slots. move ! (0 ∷ 5 ∷ 6 ∷ 7 ∷ []) $ back-slice ! tt Slot-t.the-row (named 0) (a .0 .ptr .0) (a .0 .ptr .1) slots (ws-run-line .0) (sliceVal (a .0 .ptr) (length slots)) l-run-line-slots refl room-slots $ move ! (2 ∷ []) $ fsplit ! $ move ! (0 ∷ 6 ∷ 7 ∷ 8 ∷ []) $ back-ref ! tt Bookkeeping-t.the-row (named 1) (a .1 .0 .ptr .0) (a .1 .0 .ptr .1) now-bookkeeping (ws-run-line .1 .0) $ move ! (2 ∷ []) $ fsplit ! $ drop ! $ move ! (6 ∷ 7 ∷ 8 ∷ []) $ hide-slice ! tt u8 (named 2) (a .1 .1 .0 .ptr .0) (a .1 .1 .0 .ptr .1) (ws-next-line .0) (sliceVal (a .1 .1 .0 .ptr) (length input)) (ap (sliceVal (a .1 .1 .0 .ptr)) (sym l-next-line-input)) (subst (Room u8) (sym l-next-line-input) room-input) $ move ! (2 ∷ []) $ fsplit ! $ drop ! $ fsplit ! $ drop ! $ fsplit ! $ fsplit ! $ move ! (1 ∷ []) $ feqL ! (λ l-run-line-output. move ! (0 ∷ 8 ∷ 9 ∷ 10 ∷ []) $ back-slice ! tt u8 (named 3) (a .1 .1 .1 .0 .ptr .0) (a .1 .1 .1 .0 .ptr .1) output (ws-run-line .1 .1 .1 .1 .1 .0) (sliceVal (a .1 .1 .1 .0 .ptr) (length output)) l-run-line-output refl room-output $ move ! (2 ∷ []) $ drop ! $
+        land ! (from ! (stop !)) (init ! 42 refl (tt, record { fits = is-run-line .1 })) $
+        assigns ! (addr ! (from ! (fld ! refl (hop ! (look-in ! 48 (sub ! 0 refl (whole !))) (stop !))))) (from ! (stop !)) (init ! 10 refl (tt, tt)) $
+        assigns ! (agg ! (and-then ! (load ! (from ! (stop !)) (look ! 10 refl)) (and-then ! (load ! (from ! (fld ! refl (stop !))) (look-in ! 48 (sub ! 1 refl (whole !)))) (no-more !)))) (from ! (stop !)) (init ! 8 refl (tt, (tt, (record { fits = room-output .0 }, tt)))) $
+        -- `gather`
+        calls-lent ! fm u8 window-row (gather.clauses 𝓤 H A mem run) (λ r zs. Unit {0}) (named 3) (a .1 .1 .1 .0 .ptr .0) (a .1 .1 .1 .0 .ptr .1) (ws-run-line .1 .1 .1 .1 .1 .0) (sliceVal (a .1 .1 .1 .0 .ptr) (length output)) (λ ν. (r-run-line, (r-next-line, tt))) (λ ν. (uint-row w64, (window-row, tt))) (λ ν δ. tt) known-gather (λ ν. ((refl, is-run-line .1), (is-next-line, tt))) (λ ν δ. (asks-none 𝓤 H A)) (λ ν δ r ws. tells-none 𝓤)
+        (λ ν δ. (and-then ! (load ! (from ! (stop !)) (look ! 8 refl)) (and-then ! (load ! (from ! (stop !)) (look ! 42 refl)) (and-then ! (load ! (from ! (stop !)) (look ! 44 refl)) (no-more !))))) (λ r-gather zs-gather l-gather is-gather e-gather. land ! (from ! (stop !)) (init ! 56 refl (window-typed 𝓤 H A W r-gather is-gather)) $
+        returns ! (look ! 56 refl) $ out ! 56 refl refl $ out ! 54 refl refl $ out ! 52 refl refl $ out ! 50 refl refl $ out ! 48 refl refl $ out ! 46 refl refl $ out ! 44 refl refl $ out ! 42 refl refl $ out ! 40 refl refl $ out ! 38 refl refl $ out ! 36 refl refl $ out ! 34 refl refl $ out ! 32 refl refl $ out ! 30 refl refl $ out ! 28 refl refl $ out ! 26 refl refl $ out ! 24 refl refl $ out ! 22 refl refl $ out ! 20 refl refl $ out ! 18 refl refl $ out ! 16 refl refl $ out ! 14 refl refl $ out ! 12 refl refl $ out ! 10 refl refl $ out ! 8 refl refl $ free0 ! $
+        keep ! (6 ∷ 7 ∷ 4 ∷ 5 ∷ 2 ∷ 3 ∷ 0 ∷ 1 ∷ []) $ by ! (exits r-gather (ws-run-line .0) (ws-run-line .1 .0) (ws-next-line .0) zs-gather tt l-run-line-slots l-next-line-input (l-gather ∙ l-run-line-output) is-gather))))))))))))))))))))))))))))))))))))))))))
 
 pub answer-next-spec : {M : Type 1} → stated.statement M
 unfolding code.routine
@@ -175,5 +181,5 @@ answer-next-spec 𝓤 H 𝓜 𝓖 𝓡 =
     (cited 𝓤 H (Of 𝓤 H A line-start.ended (line-start.clauses 𝓤 H A mem run)) 𝓜 𝓡 code.env #calls·line-start line-start-def.routine code.calls-calls·line-start (line-start-thm.met 𝓤 H 𝓜 𝓖 𝓡))
     (cited 𝓤 H (Of 𝓤 H A line-end.ended (line-end.clauses 𝓤 H A mem run)) 𝓜 𝓡 code.env #calls·line-end line-end-def.routine code.calls-calls·line-end (line-end-thm.met 𝓤 H 𝓜 𝓖 𝓡))
     (cited 𝓤 H (Of 𝓤 H A run-line.ended (run-line.clauses 𝓤 H A mem run)) 𝓜 𝓡 code.env #script·run-line run-line-def.routine code.calls-script·run-line (run-line-thm.met 𝓤 H 𝓜 𝓖 𝓡))
-    (cited 𝓤 H (Of 𝓤 H A written.ended (written.clauses 𝓤 H A mem run)) 𝓜 𝓡 code.env #calls·written written-def.routine code.calls-calls·written (written-thm.met 𝓤 H 𝓜 𝓖 𝓡))
+    (cited 𝓤 H (Of 𝓤 H A gather.ended (gather.clauses 𝓤 H A mem run)) 𝓜 𝓡 code.env #calls·gather gather-def.routine code.calls-calls·gather (gather-thm.met 𝓤 H 𝓜 𝓖 𝓡))
     (are .0 .0 .1) (are .1 .1 .0 .0 .1) (are .1 .1 .1 .0 .0 .1))))

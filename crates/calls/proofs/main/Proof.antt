@@ -1,18 +1,18 @@
 -- `calls::main` meets its contract: a walk of its MIR, made by tools/rewalk.
 use Rattle.walk.proofs.Pre.{ftrue, SProp, ent, emp, via, fst∗, id⊢, Lfts, Shares, Fun, givenOf, tables, u64, Is, Nothing, Boolean, owns, sliceVal, owned, nothing, onEntry, Args, Vals, Triple, cited, says, Stays, walkOf, ends-at, walked, Atoms, fullShare, URA, lit<, replicate, [], _∷_, refl, named, w64, w8, Val, vunit, vint, vptr, vbool, Memory, Routine, Heap, Calls, Loops, WpFn, FmC, Given, feqL, ‵, ⋆, _$_, _∵_, !, qed, by, move, drop, split, join, fsplit, fjoin, suffices, frame, done, whole, sub, look-in, agg, look, init, stop, fld, from, load, lit, unit-lit, of-opd, assigns, returns, enter, alloc1, alloc0, params1, pass0, free0, and-then, no-more, land, addr}
-use Rattle.walk.proofs.Walk.{uint-row, unit-row, bool-row, ref, asks-none, array-row, is-repeat, repeats, big-lit, Of, calls-any, calls-value, out, tells-none, says-none, framed-calls, finish}
+use Rattle.walk.proofs.Walk.{uint-row, unit-row, bool-row, ref, shown, asks-none, array-row, is-repeat, repeats, big-lit, Of, calls-any, calls-value, out, tells-none, says-none, framed-calls, finish}
 use Rattle.walk.proofs.Lends.{lend-local-at, back-local-at, lend-array-at, back-array-at, show-array-at, hide-array-at}
 use denote.Struct.Laws as SL
 use Rattle.relay.proofs.Rows.{bookkeeping-row, bookkeeping-typed}
-use Rattle.slots.proofs.Rows.{slot-row, slot-typed}
+use Rattle.table.proofs.Rows.{slot-row, slot-typed}
 use Rattle.relay.specs.declared.state.Bookkeeping.{Bookkeeping}
 use Rattle.relay.proofs.state.Bookkeeping as Bookkeeping-t
 use Rattle.relay.proofs.state.Bookkeeping.Laws as Bookkeeping-l
-use Rattle.table.specs.declared.Slot.{Slot}
-use Rattle.table.proofs.fresh_slot as fresh-slot
-use Rattle.table.proofs.fresh_slot.Symbol as fresh-slot-def
-use Rattle.table.proofs.fresh_slot.Symbol.{name as #table·fresh-slot}
-use Rattle.table.proofs.fresh_slot.Met as fresh-slot-thm
+use Rattle.slot.specs.declared.Slot.{Slot}
+use Rattle.slot.proofs.fresh_slot as fresh-slot
+use Rattle.slot.proofs.fresh_slot.Symbol as fresh-slot-def
+use Rattle.slot.proofs.fresh_slot.Symbol.{name as #slot·fresh-slot}
+use Rattle.slot.proofs.fresh_slot.Met as fresh-slot-thm
 use Rattle.relay.proofs.state.fresh_bookkeeping as fresh-bookkeeping
 use Rattle.relay.proofs.state.fresh_bookkeeping.Symbol as fresh-bookkeeping-def
 use Rattle.relay.proofs.state.fresh_bookkeeping.Symbol.{name as #relay·fresh-bookkeeping}
@@ -52,7 +52,7 @@ module _ {M : Type 1} (𝓤 : URA M) (H : Heap 𝓤) (A : Atoms 𝓤) (W : Given
       nothing ! $ frame ! $
       nothing ! $ frame ! $ owned ! Nothing (Is Nothing) (unit-row .makes 𝓤 H A W) r _ is $ done !
 
-  module _ (C : Calls 𝓤 H) (Λ : Loops 𝓤 H) (fm : FmC 𝓤 H (W .laws) C) (known-fresh-slot : Triple 𝓤 (C #table·fresh-slot) (Of 𝓤 H A fresh-slot.ended (fresh-slot.clauses 𝓤 H A mem run))) (known-fresh-bookkeeping : Triple 𝓤 (C #relay·fresh-bookkeeping) (Of 𝓤 H A fresh-bookkeeping.ended (fresh-bookkeeping.clauses 𝓤 H A mem run))) (known-serve : Triple 𝓤 (C #calls·serve) (Of 𝓤 H A serve.ended (serve.clauses 𝓤 H A mem run))) (known-write-listing : Triple 𝓤 (C #calls·write-listing) (Of 𝓤 H A write-listing.ended (write-listing.clauses 𝓤 H A mem run))) where
+  module _ (C : Calls 𝓤 H) (Λ : Loops 𝓤 H) (fm : FmC 𝓤 H (W .laws) C) (known-fresh-slot : Triple 𝓤 (C #slot·fresh-slot) (Of 𝓤 H A fresh-slot.ended (fresh-slot.clauses 𝓤 H A mem run))) (known-fresh-bookkeeping : Triple 𝓤 (C #relay·fresh-bookkeeping) (Of 𝓤 H A fresh-bookkeeping.ended (fresh-bookkeeping.clauses 𝓤 H A mem run))) (known-serve : Triple 𝓤 (C #calls·serve) (Of 𝓤 H A serve.ended (serve.clauses 𝓤 H A mem run))) (known-write-listing : Triple 𝓤 (C #calls·write-listing) (Of 𝓤 H A write-listing.ended (write-listing.clauses 𝓤 H A mem run))) where
     walk : ent 𝓤 (onEntry 𝓤 H A main.signature κs qs a at) (WpFn 𝓤 H C Λ code.function [] Post)
     walk =
         qed W (‵ ftrue ∷ ‵ (owns [] a at) ∷ []) ∵
@@ -69,7 +69,7 @@ module _ {M : Type 1} (𝓤 : URA M) (H : Heap 𝓤) (A : Atoms 𝓤) (W : Given
         (no-more !) (λ r-fresh-bookkeeping is-fresh-bookkeeping e-fresh-bookkeeping. land ! (from ! (stop !)) (init ! 22 refl (bookkeeping-typed 𝓤 H A W r-fresh-bookkeeping is-fresh-bookkeeping)) $
         assigns ! (of-opd ! (load ! (from ! (stop !)) (look ! 22 refl))) (from ! (stop !)) (init ! 30 refl (bookkeeping-typed 𝓤 H A W r-fresh-bookkeeping is-fresh-bookkeeping)) $
         assigns ! (repeats ! (uint-row w8) 65536 0 (lit ! tt)) (from ! (stop !)) (init ! 28 refl ((array-row (uint-row w8) 65536) .lawful 𝓤 H A W .typed (replicate 65536 0) _ (is-repeat (uint-row w8) 65536 0 (refl, lit< tt)) .0)) $
-        assigns ! (repeats ! (uint-row w8) 4096 0 (lit ! tt)) (from ! (stop !)) (init ! 26 refl ((array-row (uint-row w8) 4096) .lawful 𝓤 H A W .typed (replicate 4096 0) _ (is-repeat (uint-row w8) 4096 0 (refl, lit< tt)) .0)) $
+        assigns ! (repeats ! (uint-row w8) 36864 0 (lit ! tt)) (from ! (stop !)) (init ! 26 refl ((array-row (uint-row w8) 36864) .lawful 𝓤 H A W .typed (replicate 36864 0) _ (is-repeat (uint-row w8) 36864 0 (refl, lit< tt)) .0)) $
         assigns ! (addr ! (from ! (stop !))) (from ! (stop !)) (init ! 20 refl (tt, tt)) $
         assigns ! (agg ! (and-then ! (load ! (from ! (stop !)) (look ! 20 refl)) (and-then ! (lit ! tt) (no-more !)))) (from ! (stop !)) (init ! 18 refl (tt, (tt, (record { fits = lit< tt }, tt)))) $
         assigns ! (addr ! (from ! (stop !))) (from ! (stop !)) (init ! 16 refl (tt, tt)) $
@@ -78,12 +78,12 @@ module _ {M : Type 1} (𝓤 : URA M) (H : Heap 𝓤) (A : Atoms 𝓤) (W : Given
         assigns ! (addr ! (from ! (stop !))) (from ! (stop !)) (init ! 10 refl (tt, tt)) $
         assigns ! (agg ! (and-then ! (load ! (from ! (stop !)) (look ! 10 refl)) (and-then ! (big-lit ! (lit< tt)) (no-more !)))) (from ! (stop !)) (init ! 8 refl (tt, (tt, (record { fits = lit< tt }, tt)))) $
         -- `serve`
-        lend-array-at ! 26 tt (uint-row w8) tt 4096 (named 3) (replicate 4096 0) (is-repeat (uint-row w8) 4096 0 (refl, lit< tt)) (lit< tt, lit< tt) l₅ 0 refl (λ ν-serve-output δ-serve-output len-serve-output.
+        lend-array-at ! 26 tt (uint-row w8) tt 36864 (named 3) (replicate 36864 0) (is-repeat (uint-row w8) 36864 0 (refl, lit< tt)) (lit< tt, lit< tt) l₅ 0 refl (λ ν-serve-output δ-serve-output len-serve-output.
         lend-array-at ! 30 tt (uint-row w8) tt 65536 (named 2) (replicate 65536 0) (is-repeat (uint-row w8) 65536 0 (refl, lit< tt)) (lit< tt, lit< tt) l₄ 0 refl (λ ν-serve-input δ-serve-input len-serve-input.
         lend-local-at ! 34 tt bookkeeping-row tt (named 1) r-fresh-bookkeeping is-fresh-bookkeeping l₃ 0 refl (λ ν-serve-bookkeeping δ-serve-bookkeeping.
         lend-array-at ! 38 tt slot-row tt 64 (named 0) (replicate 64 r-fresh-slot) (is-repeat slot-row 64 r-fresh-slot is-fresh-slot) (lit< tt, lit< tt) l₂ 0 refl (λ ν-serve-slots δ-serve-slots len-serve-slots.
         nothing ! $ move ! (8 ∷ 0 ∷ []) $ join ! $ move ! (6 ∷ 0 ∷ []) $ join ! $ move ! (4 ∷ 0 ∷ []) $ join ! $ move ! (2 ∷ 0 ∷ []) $ join ! $ nothing ! $ move ! (5 ∷ 0 ∷ []) $ fjoin ! $ move ! (4 ∷ 0 ∷ []) $ fjoin ! $ move ! (3 ∷ 0 ∷ []) $ fjoin ! $ move ! (2 ∷ 0 ∷ []) $ fjoin ! $ move ! (1 ∷ 0 ∷ []) $
-        calls-any ! fm serve.ended (serve.clauses 𝓤 H A mem run) (ν-serve-slots ∷ [], (ν-serve-bookkeeping ∷ [], (ν-serve-input ∷ [], (ν-serve-output ∷ [], tt)))) (fullShare, (fullShare, (fullShare, (fullShare, tt)))) tt bool-row (ref l₂ 0 δ-serve-slots (replicate 64 r-fresh-slot), (ref l₃ 0 δ-serve-bookkeeping r-fresh-bookkeeping, (ref l₄ 0 δ-serve-input (replicate 65536 0), (ref l₅ 0 δ-serve-output (replicate 4096 0), tt)))) (sliceVal (l₂, 0) 64 ∷ [], (vptr l₃ 0 ∷ [], (sliceVal (l₄, 0) 65536 ∷ [], (sliceVal (l₅, 0) 4096 ∷ [], tt)))) tt (λ r ws. Unit {0}) known-serve (asks-none 𝓤 H A) (λ r ws. tells-none 𝓤)
+        calls-any ! fm serve.ended (serve.clauses 𝓤 H A mem run) (ν-serve-slots ∷ [], (ν-serve-bookkeeping ∷ [], (ν-serve-input ∷ [], (ν-serve-output ∷ [], tt)))) (fullShare, (fullShare, (fullShare, (fullShare, tt)))) tt bool-row (ref l₂ 0 δ-serve-slots (replicate 64 r-fresh-slot), (ref l₃ 0 δ-serve-bookkeeping r-fresh-bookkeeping, (ref l₄ 0 δ-serve-input (replicate 65536 0), (ref l₅ 0 δ-serve-output (replicate 36864 0), tt)))) (sliceVal (l₂, 0) 64 ∷ [], (vptr l₃ 0 ∷ [], (sliceVal (l₄, 0) 65536 ∷ [], (sliceVal (l₅, 0) 36864 ∷ [], tt)))) tt (λ r ws. Unit {0}) known-serve (asks-none 𝓤 H A) (λ r ws. tells-none 𝓤)
         (and-then ! (load ! (from ! (stop !)) (look ! 19 refl)) (and-then ! (load ! (from ! (stop !)) (look ! 17 refl)) (and-then ! (load ! (from ! (stop !)) (look ! 13 refl)) (and-then ! (load ! (from ! (stop !)) (look ! 9 refl)) (no-more !))))) (λ r-serve ws-serve is-serve e-serve.
         split ! $ move ! (1 ∷ []) $ split ! $ move ! (1 ∷ []) $ split ! $ move ! (1 ∷ []) $ split ! $ move ! (1 ∷ []) $ drop ! $ move ! (4 ∷ []) $ fsplit ! $ fsplit ! $ move ! (1 ∷ []) $ feqL ! (λ l-serve-slots. move ! (0 ∷ 5 ∷ []) $
         back-array-at ! 36 tt slot-row tt 64 (ws-serve .0) l₂ 0 refl (λ back-serve-slots.
@@ -92,7 +92,7 @@ module _ {M : Type 1} (𝓤 : URA M) (H : Heap 𝓤) (A : Atoms 𝓤) (W : Given
         fsplit ! $ fsplit ! $ move ! (1 ∷ []) $ feqL ! (λ l-serve-input. move ! (0 ∷ 3 ∷ []) $
         back-array-at ! 30 tt (uint-row w8) tt 65536 (ws-serve .1 .1 .0) l₄ 0 refl (λ back-serve-input.
         fsplit ! $ fsplit ! $ move ! (1 ∷ []) $ feqL ! (λ l-serve-output. move ! (0 ∷ 2 ∷ []) $
-        back-array-at ! 27 tt (uint-row w8) tt 4096 (ws-serve .1 .1 .1 .0) l₅ 0 refl (λ back-serve-output.
+        back-array-at ! 27 tt (uint-row w8) tt 36864 (ws-serve .1 .1 .1 .0) l₅ 0 refl (λ back-serve-output.
         drop ! $
         land ! (from ! (stop !)) (init ! 24 refl (tt, tt)) $
         assigns ! (addr ! (from ! (stop !))) (from ! (stop !)) (init ! 4 refl (tt, tt)) $
@@ -101,7 +101,7 @@ module _ {M : Type 1} (𝓤 : URA M) (H : Heap 𝓤) (A : Atoms 𝓤) (W : Given
         -- `write_listing`
         show-array-at ! 32 tt slot-row tt 64 (named 0) (ws-serve .0) back-serve-slots (lit< tt, lit< tt) l₂ 0 refl (λ ν-write-listing-slots δ-write-listing-slots len-write-listing-slots.
         nothing ! $ move ! (2 ∷ 0 ∷ []) $ join ! $ nothing ! $ owned ! Boolean (Is Boolean) (bool-row .makes 𝓤 H A W) r-serve _ refl $ fjoin ! $ owned ! u64 (Is u64) ((uint-row w64) .makes 𝓤 H A W) ((ws-serve .1 .0) .clock) _ (refl, SL.owed Bookkeeping-t.the-type Bookkeeping-l.the-laws (ws-serve .1 .0) _ back-serve-bookkeeping .0 .1) $ fjoin ! $ move ! (2 ∷ 0 ∷ []) $ fjoin ! $ move ! (1 ∷ 0 ∷ []) $
-        calls-any ! fm write-listing.ended (write-listing.clauses 𝓤 H A mem run) (ν-write-listing-slots ∷ [], tt) (fullShare, tt) tt unit-row (ref l₂ 0 δ-write-listing-slots (ws-serve .0), (((ws-serve .1 .0) .clock), (r-serve, tt))) (sliceVal (l₂, 0) 64 ∷ [], (vint w64 ((ws-serve .1 .0) .clock) ∷ [], (vbool r-serve ∷ [], tt))) tt (λ r ws. Unit {0}) known-write-listing (asks-none 𝓤 H A) (λ r ws. tells-none 𝓤)
+        calls-any ! fm write-listing.ended (write-listing.clauses 𝓤 H A mem run) (ν-write-listing-slots ∷ [], tt) (fullShare, tt) tt unit-row (ref l₂ 0 δ-write-listing-slots (ws-serve .0), (((ws-serve .1 .0) .clock), (r-serve, tt))) (sliceVal (l₂, 0) 64 ∷ [], (vint w64 ((ws-serve .1 .0) .clock) ∷ [], (vbool r-serve ∷ [], tt))) tt (λ r ws. Unit {0}) known-write-listing (shown 𝓤 H A len-write-listing-slots) (λ r ws. tells-none 𝓤)
         (and-then ! (load ! (from ! (stop !)) (look ! 3 refl)) (and-then ! (load ! (from ! (stop !)) (look ! 1 refl)) (and-then ! (load ! (from ! (stop !)) (look ! 25 refl)) (no-more !)))) (λ r-write-listing ws-write-listing is-write-listing e-write-listing.
         split ! $ move ! (1 ∷ []) $ drop ! $ move ! (1 ∷ []) $ fsplit ! $ drop ! $ move ! (1 ∷ []) $
         hide-array-at ! 33 tt slot-row tt 64 (ws-serve .0) l₂ 0 refl len-write-listing-slots (λ back-write-listing-slots.
@@ -125,7 +125,7 @@ main-spec 𝓤 H 𝓜 𝓖 𝓡 =
     (walked 𝓤 H A main.ended stayed (main.clauses 𝓤 H A mem run) (WpFn 𝓤 H C Λ code.function) (λ κs. tt) (λ κs. tt)
     (λ κs qs bounds a g are. via 𝓤 _ (fst∗ 𝓤 _ (emp 𝓤))
     (walk 𝓤 H A W mem run κs qs a C Λ (framed-calls 𝓤 H 𝓜 𝓖 𝓡 code.env)
-    (cited 𝓤 H (Of 𝓤 H A fresh-slot.ended (fresh-slot.clauses 𝓤 H A mem run)) 𝓜 𝓡 code.env #table·fresh-slot fresh-slot-def.routine code.calls-table·fresh-slot (fresh-slot-thm.met 𝓤 H 𝓜 𝓖 𝓡))
+    (cited 𝓤 H (Of 𝓤 H A fresh-slot.ended (fresh-slot.clauses 𝓤 H A mem run)) 𝓜 𝓡 code.env #slot·fresh-slot fresh-slot-def.routine code.calls-slot·fresh-slot (fresh-slot-thm.met 𝓤 H 𝓜 𝓖 𝓡))
     (cited 𝓤 H (Of 𝓤 H A fresh-bookkeeping.ended (fresh-bookkeeping.clauses 𝓤 H A mem run)) 𝓜 𝓡 code.env #relay·fresh-bookkeeping fresh-bookkeeping-def.routine code.calls-relay·state·fresh-bookkeeping (fresh-bookkeeping-thm.met 𝓤 H 𝓜 𝓖 𝓡))
     (cited 𝓤 H (Of 𝓤 H A serve.ended (serve.clauses 𝓤 H A mem run)) 𝓜 𝓡 code.env #calls·serve serve-def.routine code.calls-calls·serve (serve-thm.met 𝓤 H 𝓜 𝓖 𝓡))
     (cited 𝓤 H (Of 𝓤 H A write-listing.ended (write-listing.clauses 𝓤 H A mem run)) 𝓜 𝓡 code.env #calls·write-listing write-listing-def.routine code.calls-calls·write-listing (write-listing-thm.met 𝓤 H 𝓜 𝓖 𝓡)))))

@@ -5,8 +5,8 @@ use Rattle.walk.proofs.Lends.{lend-slice, back-slice, lend-ref, back-ref}
 use Rattle.calls.proofs.Rows.{window-row, window-typed}
 use Rattle.relay.specs.declared.state.Bookkeeping.{Bookkeeping}
 use Rattle.relay.proofs.state.Bookkeeping as Bookkeeping-t
-use Rattle.table.specs.declared.Slot.{Slot}
-use Rattle.table.proofs.Slot as Slot-t
+use Rattle.slot.specs.declared.Slot.{Slot}
+use Rattle.slot.proofs.Slot as Slot-t
 use Rattle.calls.specs.declared.Window.{Window}
 use Rattle.calls.proofs.Window as Window-t
 use Rattle.calls.proofs.Window.Laws as Window-l

@@ -8,12 +8,12 @@ use Rattle.listing.specs.declared.Listed.{Listed}
 use Rattle.listing.specs.declared.Listed.the-variants.{Length, Refused}
 use Rattle.listing.proofs.Listed as Listed-t
 use Rattle.listing.proofs.Listed.Laws as Listed-l
-use Rattle.table.specs.declared.Slot.{Slot}
-use Rattle.table.proofs.Slot as Slot-t
-use Rattle.slots.proofs.slot_count as slot-count
-use Rattle.slots.proofs.slot_count.Symbol as slot-count-def
-use Rattle.slots.proofs.slot_count.Symbol.{name as #slots·slot-count}
-use Rattle.slots.proofs.slot_count.Met as slot-count-thm
+use Rattle.slot.specs.declared.Slot.{Slot}
+use Rattle.slot.proofs.Slot as Slot-t
+use Rattle.table.proofs.slot_count as slot-count
+use Rattle.table.proofs.slot_count.Symbol as slot-count-def
+use Rattle.table.proofs.slot_count.Symbol.{name as #table·slot-count}
+use Rattle.table.proofs.slot_count.Met as slot-count-thm
 use Rattle.listing.proofs.text_size as text-size
 use Rattle.listing.proofs.text_size.Symbol as text-size-def
 use Rattle.listing.proofs.text_size.Symbol.{name as #listing·text-size}
@@ -73,7 +73,7 @@ module _ {M : Type 1} (𝓤 : URA M) (H : Heap 𝓤) (A : Atoms 𝓤) (W : Given
       nothing ! $ move ! (4 ∷ 0 ∷ []) $ join ! $ move ! (2 ∷ 0 ∷ []) $ join ! $ frame ! $
       nothing ! $ move ! (2 ∷ 0 ∷ []) $ fjoin ! $ owned ! u64 (Is u64) ((uint-row w64) .makes 𝓤 H A W) clock _ (refl, g-clock) $ fjoin ! $ move ! (1 ∷ 0 ∷ []) $ fjoin ! $ frame ! $ owned ! Listed-t.the-row (Is Listed-t.the-row) (listed-row .makes 𝓤 H A W) r _ is $ done !
 
-  module _ (C : Calls 𝓤 H) (Λ : Loops 𝓤 H) (fm : FmC 𝓤 H (W .laws) C) (known-slot-count : Triple 𝓤 (C #slots·slot-count) (Of 𝓤 H A slot-count.ended (slot-count.clauses 𝓤 H A mem run))) (known-text-size : Triple 𝓤 (C #listing·text-size) (Of 𝓤 H A text-size.ended (text-size.clauses 𝓤 H A mem run))) (known-write-lines : Triple 𝓤 (C #listing·write-lines) (Of 𝓤 H A write-lines.ended (write-lines.clauses 𝓤 H A mem run))) where
+  module _ (C : Calls 𝓤 H) (Λ : Loops 𝓤 H) (fm : FmC 𝓤 H (W .laws) C) (known-slot-count : Triple 𝓤 (C #table·slot-count) (Of 𝓤 H A slot-count.ended (slot-count.clauses 𝓤 H A mem run))) (known-text-size : Triple 𝓤 (C #listing·text-size) (Of 𝓤 H A text-size.ended (text-size.clauses 𝓤 H A mem run))) (known-write-lines : Triple 𝓤 (C #listing·write-lines) (Of 𝓤 H A write-lines.ended (write-lines.clauses 𝓤 H A mem run))) where
     walk : Room Slot-t.the-row (length slots) → Room u8 (length output) → ent 𝓤 (onEntry 𝓤 H A list.signature κs qs a at) (WpFn 𝓤 H C Λ code.function (sliceVal (a .0 .ptr) (length slots) ∷ vint w64 clock ∷ sliceVal (a .1 .1 .0 .ptr) (length output) ∷ []) Post)
     walk room-slots room-output =
         qed W ((t0 ⊛ (t1 ⊛ ‵ ftrue)) ∷ ‵ (owns (ShrSlice (named 0) (κs .0) Slot-t.the-row ∷ u64 ∷ MutSlice (named 1) (κs .1 .0) u8 ∷ []) a at) ∷ []) ∵
@@ -111,7 +111,7 @@ module _ {M : Type 1} (𝓤 : URA M) (H : Heap 𝓤) (A : Atoms 𝓤) (W : Given
         -- `write_lines`
         move ! (2 ∷ 3 ∷ []) $
         move ! (2 ∷ 3 ∷ []) $
-        calls-both ! fm Slot-t.the-row u8 unit-row (write-lines.clauses 𝓤 H A mem run) (λ r zs. _) (named 0) (a .0 .ptr .0) (a .0 .ptr .1) slots (sliceVal (a .0 .ptr) (length slots)) (named 1) (a .1 .1 .0 .ptr .0) (a .1 .1 .0 .ptr .1) output (sliceVal (a .1 .1 .0 .ptr) (length output)) (λ ν. (clock, tt)) (λ ν. (uint-row w64, tt)) (λ ν δ. tt) known-write-lines (λ ν. ((refl, g-clock), tt)) (λ ν δ. (shown 𝓤 H A (subst (λ (m : ℕ). m ≤ length output) e-text-size fits))) (λ ν δ r ws. id⊢ 𝓤 _)
+        calls-both ! fm Slot-t.the-row u8 unit-row (write-lines.clauses 𝓤 H A mem run) (λ r zs. _) (named 0) (a .0 .ptr .0) (a .0 .ptr .1) slots (sliceVal (a .0 .ptr) (length slots)) (named 1) (a .1 .1 .0 .ptr .0) (a .1 .1 .0 .ptr .1) output (sliceVal (a .1 .1 .0 .ptr) (length output)) (λ ν. (clock, tt)) (λ ν. (uint-row w64, tt)) (λ ν δ. tt) known-write-lines (λ ν. ((refl, g-clock), tt)) (λ ν δ. (shown 𝓤 H A (subst (λ (m : ℕ). m ≤ length output) (e-text-size .0) fits))) (λ ν δ r ws. id⊢ 𝓤 _)
         (λ ν δ. (and-then ! (load ! (from ! (stop !)) (look ! 22 refl)) (and-then ! (load ! (from ! (stop !)) (look ! 4 refl)) (and-then ! (load ! (from ! (stop !)) (look ! 20 refl)) (no-more !))))) (λ r-write-lines zs-write-lines l-write-lines is-write-lines e-write-lines. land ! (from ! (stop !)) (init ! 8 refl (tt, tt)) $
         assigns ! (agg ! (and-then ! (lit ! tt) (and-then ! (load ! (from ! (stop !)) (look ! 14 refl)) (no-more !)))) (from ! (stop !)) (init ! 24 refl (listed-typed 𝓤 H A W (Length r-text-size) (EL.owes Listed-t.the-type Listed-l.the-laws (Length r-text-size) ((refl, is-text-size .1), tt)))) $
         returns ! (look ! 24 refl) $ out ! 24 refl refl $ out ! 22 refl refl $ out ! 20 refl refl $ out ! 18 refl refl $ out ! 16 refl refl $ out ! 14 refl refl $ out ! 12 refl refl $ out ! 10 refl refl $ out ! 8 refl refl $ out ! 6 refl refl $ out ! 4 refl refl $ free0 ! $
@@ -131,7 +131,7 @@ list-spec 𝓤 H 𝓜 𝓖 𝓡 =
     (walked 𝓤 H A list.ended stayed (list.clauses 𝓤 H A mem run) (WpFn 𝓤 H C Λ code.function) (λ κs. (slice-vals, (uint-vals w64, (slice-vals, tt)))) (λ κs. (shr-slice-tells (named 0) (κs .0) Slot-t.the-row, (uint-tells w64, (mut-slice-tells (named 1) (κs .1 .0) u8, tt))))
     (λ κs qs bounds a g are. via 𝓤 _ (fst∗ 𝓤 _ (emp 𝓤))
     (walk 𝓤 H A W mem run κs qs a (are .1 .0 .1) C Λ (framed-calls 𝓤 H 𝓜 𝓖 𝓡 code.env)
-    (cited 𝓤 H (Of 𝓤 H A slot-count.ended (slot-count.clauses 𝓤 H A mem run)) 𝓜 𝓡 code.env #slots·slot-count slot-count-def.routine code.calls-slots·slot-count (slot-count-thm.met 𝓤 H 𝓜 𝓖 𝓡))
+    (cited 𝓤 H (Of 𝓤 H A slot-count.ended (slot-count.clauses 𝓤 H A mem run)) 𝓜 𝓡 code.env #table·slot-count slot-count-def.routine code.calls-table·slot-count (slot-count-thm.met 𝓤 H 𝓜 𝓖 𝓡))
     (cited 𝓤 H (Of 𝓤 H A text-size.ended (text-size.clauses 𝓤 H A mem run)) 𝓜 𝓡 code.env #listing·text-size text-size-def.routine code.calls-listing·text-size (text-size-thm.met 𝓤 H 𝓜 𝓖 𝓡))
     (cited 𝓤 H (Of 𝓤 H A write-lines.ended (write-lines.clauses 𝓤 H A mem run)) 𝓜 𝓡 code.env #listing·write-lines write-lines-def.routine code.calls-listing·write-lines (write-lines-thm.met 𝓤 H 𝓜 𝓖 𝓡))
     (are .0 .0 .1) (are .1 .1 .0 .0 .1))))

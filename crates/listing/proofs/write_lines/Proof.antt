@@ -2,21 +2,21 @@
 use Rattle.walk.proofs.Pre.{ℕ, _<_, _^_, _+_, _-_, _≤_, ftrue, fat, flft, froom, fdies, SProp, ent, id⊢, Lfts, Shares, Fun, givenOf, tables, tablesOf, u64, u8, yes, Is, pointee, uint-vals, uint-tells, Nothing, owns, plain, sliceVal, MutSlice, Room, slice-vals, mut-slice-tells, ShrSlice, shr-slice-tells, sliceTy, owned, nothing, onEntry, Args, Vals, Triple, cited, says, needs, Stays, stay-slice, stay-none, walkOf, goes-slice, goes-none, ends-at, walked, stay-none-slice, goes-none-slice, Atoms, fullShare, URA, lit<, ltb→lt, nltb→le, length, dropᴸ, [], _∷_, List, _++_, refl, _≡_, _∙_, named, w64, imm, tyInt, tyBool, tyRef, erased, mut, tyUnit, w8, Val, vunit, vint, Memory, Routine, Heap, WpFn, Tables, FmC, Given, ‵, _⊛_, ⋆, _$_, _∵_, !, qed, by, move, drop, split, join, fsplit, fjoin, suffices, frame, done, keep, Item, whole, sub, look-in, agg, look, init, forget, stop, hop, fld, from, load, lit, unit-lit, of-opd, bin, assigns, returns, enter, alloc1, alloc0, params1, pass1, pass0, free0, store, and-then, no-more, assigns-last, land, addr}
 use Rattle.walk.proofs.Walk.{uint-row, unit-row, ref, shown, Of, tokens, out, out-room, next-fits, falls, whiles, tests, framed-calls, finish}
 use Rattle.walk.proofs.Lends.{calls-lent, calls-shared}
-use Rattle.slots.proofs.Rows.{slot-row, slot-typed}
-use Rattle.table.specs.declared.Slot.{Slot}
-use Rattle.table.proofs.Slot as Slot-t
-use Rattle.table.proofs.Slot.Laws as Slot-l
-use Rattle.slots.proofs.slot_at as slot-at
-use Rattle.slots.proofs.slot_at.Symbol as slot-at-def
-use Rattle.slots.proofs.slot_at.Symbol.{name as #slots·slot-at}
-use Rattle.slots.proofs.slot_at.Met as slot-at-thm
+use Rattle.table.proofs.Rows.{slot-row, slot-typed}
+use Rattle.slot.specs.declared.Slot.{Slot}
+use Rattle.slot.proofs.Slot as Slot-t
+use Rattle.slot.proofs.Slot.Laws as Slot-l
+use Rattle.table.proofs.slot_at as slot-at
+use Rattle.table.proofs.slot_at.Symbol as slot-at-def
+use Rattle.table.proofs.slot_at.Symbol.{name as #table·slot-at}
+use Rattle.table.proofs.slot_at.Met as slot-at-thm
 use Rattle.listing.proofs.puts.put_slot as put-slot
 use Rattle.listing.proofs.puts.put_slot.Symbol as put-slot-def
 use Rattle.listing.proofs.puts.put_slot.Symbol.{name as #listing·put-slot}
 use Rattle.listing.proofs.puts.put_slot.Met as put-slot-thm
-use Rattle.table.specs.Table.{freshSlot}
+use Rattle.slot.specs.Slot.{freshSlot}
 use Rattle.listing.specs.Listing.{slotLines, listing}
-use Rattle.listing.proofs.Laws.{Putting, putting-next, listing-start, listing-fits, listing-put}
+use Rattle.listing.proofs.Laws.{Putting, putting-next, listing-start, lines-fit, listing-put}
 use Rattle.listing.proofs.write_lines.Key.{name as #listing·write-lines}
 use Rattle.listing.proofs.write_lines as write-lines
 use Rattle.listing.proofs.write_lines.Statement as stated
@@ -75,7 +75,7 @@ module _ {M : Type 1} (𝓤 : URA M) (H : Heap 𝓤) (A : Atoms 𝓤) (W : Given
   abbrev I : (l₀ l₁ l₂ l₃ l₄ l₅ l₆ l₇ l₈ l₉ l₁₀ : ℕ) → State → List (Item 𝓤)
   I l₀ l₁ l₂ l₃ l₄ l₅ l₆ l₇ l₈ l₉ l₁₀ x = Own-slots slots ∷ t0 ∷ Own-output (x .2) ∷ t1 ∷ ‵ (froom (sliceTy (tyRef erased mut (tyInt w8))) l₁₀ 0) ∷ ‵ (fdies (sliceTy (tyRef erased mut (tyInt w8))) l₁₀) ∷ ‵ (froom (tyRef erased mut (tyInt w8)) l₉ 0) ∷ ‵ (fdies (tyRef erased mut (tyInt w8)) l₉) ∷ ‵ (froom tyBool l₈ 0) ∷ ‵ (fdies tyBool l₈) ∷ ‵ (froom (tyInt w64) l₇ 0) ∷ ‵ (fdies (tyInt w64) l₇) ∷ ‵ (froom Slot-l.mir l₆ 0) ∷ ‵ (fdies Slot-l.mir l₆) ∷ ‵ (fat fullShare (tyInt w64) l₅ 0 (vint w64 (x .1))) ∷ ‵ (fdies (tyInt w64) l₅) ∷ ‵ (fat fullShare (tyInt w64) l₄ 0 (vint w64 (x .0))) ∷ ‵ (fdies (tyInt w64) l₄) ∷ ‵ (fat fullShare (tyInt w64) l₃ 0 (vint w64 clock)) ∷ ‵ (fdies (tyInt w64) l₃) ∷ ‵ (fat fullShare (sliceTy (tyRef (named 1) mut (tyInt w8))) l₂ 0 (sliceVal (a .1 .0 .ptr) (length output))) ∷ ‵ (fdies (sliceTy (tyRef (named 1) mut (tyInt w8))) l₂) ∷ ‵ (fat fullShare (sliceTy (tyRef (named 0) imm (pointee (Slot-t.the-row .written)))) l₁ 0 (sliceVal (a .0 .ptr) (length slots))) ∷ ‵ (fdies (sliceTy (tyRef (named 0) imm (pointee (Slot-t.the-row .written)))) l₁) ∷ ‵ (froom tyUnit l₀ 0) ∷ ‵ (fdies tyUnit l₀) ∷ []
 
-  module _ (𝓣 : Tables 𝓤 H) (fm : FmC 𝓤 H (W .laws) (𝓣 .C)) (known-slot-at : Triple 𝓤 (𝓣 .C #slots·slot-at) (Of 𝓤 H A slot-at.ended (slot-at.clauses 𝓤 H A mem run))) (known-put-slot : Triple 𝓤 (𝓣 .C #listing·put-slot) (Of 𝓤 H A put-slot.ended (put-slot.clauses 𝓤 H A mem run))) where
+  module _ (𝓣 : Tables 𝓤 H) (fm : FmC 𝓤 H (W .laws) (𝓣 .C)) (known-slot-at : Triple 𝓤 (𝓣 .C #table·slot-at) (Of 𝓤 H A slot-at.ended (slot-at.clauses 𝓤 H A mem run))) (known-put-slot : Triple 𝓤 (𝓣 .C #listing·put-slot) (Of 𝓤 H A put-slot.ended (put-slot.clauses 𝓤 H A mem run))) where
     walk : Room Slot-t.the-row (length slots) → Room u8 (length output) → length (listing clock slots) ≤ length output → ent 𝓤 (onEntry 𝓤 H A write-lines.signature κs qs a at) (WpFn 𝓤 H (𝓣 .C) (𝓣 .Λ) code.function (sliceVal (a .0 .ptr) (length slots) ∷ sliceVal (a .1 .0 .ptr) (length output) ∷ vint w64 clock ∷ []) Post)
     walk room-slots room-output asked =
         qed W ((t0 ⊛ (t1 ⊛ ‵ ftrue)) ∷ ‵ (owns (ShrSlice (named 0) (κs .0) Slot-t.the-row ∷ MutSlice (named 1) (κs .1 .0) u8 ∷ u64 ∷ []) a at) ∷ []) ∵
@@ -102,7 +102,7 @@ module _ {M : Type 1} (𝓤 : URA M) (H : Heap 𝓤) (A : Atoms 𝓤) (W : Given
         assigns ! (agg ! (and-then ! (load ! (from ! (stop !)) (look ! 6 refl)) (and-then ! (load ! (from ! (fld ! refl (stop !))) (look-in ! 20 (sub ! 1 refl (whole !)))) (no-more !)))) (from ! (stop !)) (init ! 4 refl (tt, (tt, (record { fits = room-output .0 }, tt)))) $
         -- `put_slot`
         move ! (2 ∷ 3 ∷ []) $
-        calls-lent ! fm u8 (uint-row w64) (put-slot.clauses 𝓤 H A mem run) (λ r zs. _) (named 1) (a .1 .0 .ptr .0) (a .1 .0 .ptr .1) (x .2) (sliceVal (a .1 .0 .ptr) (length output)) (λ ν. ((x .0), (clock, ((x .1), (r-slot-at, tt))))) (λ ν. (uint-row w64, (uint-row w64, (uint-row w64, (slot-row, tt))))) (λ ν δ. tt) known-put-slot (λ ν. ((refl, (x .3 .0)), ((refl, g-clock), ((refl, (x .3 .1 .0)), (is-slot-at, tt))))) (λ ν δ. (shown 𝓤 H A (listing-fits clock (x .3 .1 .1 .1) r-slot-at within e-slot-at asked))) (λ ν δ r ws. id⊢ 𝓤 _)
+        calls-lent ! fm u8 (uint-row w64) (put-slot.clauses 𝓤 H A mem run) (λ r zs. _) (named 1) (a .1 .0 .ptr .0) (a .1 .0 .ptr .1) (x .2) (sliceVal (a .1 .0 .ptr) (length output)) (λ ν. ((x .0), (clock, ((x .1), (r-slot-at, tt))))) (λ ν. (uint-row w64, (uint-row w64, (uint-row w64, (slot-row, tt))))) (λ ν δ. tt) known-put-slot (λ ν. ((refl, (x .3 .0)), ((refl, g-clock), ((refl, (x .3 .1 .0)), (is-slot-at, tt))))) (λ ν δ. (shown 𝓤 H A (lines-fit clock (x .3 .1 .1 .1) r-slot-at within e-slot-at asked))) (λ ν δ r ws. id⊢ 𝓤 _)
         (λ ν δ. (and-then ! (load ! (from ! (stop !)) (look ! 4 refl)) (and-then ! (load ! (from ! (stop !)) (look ! 16 refl)) (and-then ! (load ! (from ! (stop !)) (look ! 18 refl)) (and-then ! (load ! (from ! (stop !)) (look ! 14 refl)) (and-then ! (load ! (from ! (stop !)) (look ! 12 refl)) (no-more !))))))) (λ r-put-slot zs-put-slot l-put-slot is-put-slot e-put-slot. land ! (from ! (stop !)) (store ! 16 refl (tt, record { fits = is-put-slot .1 })) $
         assigns-last ! (bin ! (load ! (from ! (stop !)) (look ! 14 refl)) (lit ! tt) (record { fits = fits′ })) (from ! (stop !)) (store ! 14 refl (tt, record { fits = fits′ })) $
         forget ! 4 refl $ forget ! 6 refl $ forget ! 8 refl $ forget ! 10 refl $ forget ! 12 refl $
@@ -127,6 +127,6 @@ write-lines-spec 𝓤 H 𝓜 𝓖 𝓡 =
     (walked 𝓤 H A write-lines.ended stayed (write-lines.clauses 𝓤 H A mem run) (WpFn 𝓤 H (𝓣 .C) (𝓣 .Λ) code.function) (λ κs. (slice-vals, (slice-vals, (uint-vals w64, tt)))) (λ κs. (shr-slice-tells (named 0) (κs .0) Slot-t.the-row, (mut-slice-tells (named 1) (κs .1 .0) u8, (uint-tells w64, tt))))
     (λ κs qs bounds a g are. needs 𝓤 (length (listing (a .1 .1 .0) (a .0 .now)) ≤ length (a .1 .0 .now)) _
     (walk 𝓤 H A W mem run κs qs a (are .1 .1 .0 .1) 𝓣 (framed-calls 𝓤 H 𝓜 𝓖 𝓡 code.env)
-    (cited 𝓤 H (Of 𝓤 H A slot-at.ended (slot-at.clauses 𝓤 H A mem run)) 𝓜 𝓡 code.env #slots·slot-at slot-at-def.routine code.calls-slots·slot-at (slot-at-thm.met 𝓤 H 𝓜 𝓖 𝓡))
+    (cited 𝓤 H (Of 𝓤 H A slot-at.ended (slot-at.clauses 𝓤 H A mem run)) 𝓜 𝓡 code.env #table·slot-at slot-at-def.routine code.calls-table·slot-at (slot-at-thm.met 𝓤 H 𝓜 𝓖 𝓡))
     (cited 𝓤 H (Of 𝓤 H A put-slot.ended (put-slot.clauses 𝓤 H A mem run)) 𝓜 𝓡 code.env #listing·put-slot put-slot-def.routine code.calls-listing·puts·put-slot (put-slot-thm.met 𝓤 H 𝓜 𝓖 𝓡))
     (are .0 .0 .1) (are .1 .0 .0 .1))))

@@ -1,6 +1,6 @@
 use mathlib.Core.Path.{refl}
 use Rattle.wire.specs.Wire.{bytesOf}
-use Rattle.messages.specs.Messages.{addressHead}
+use Rattle.messages.specs.Inner.{addressHead}
 use borrow.Author.Needs.{needs}
 use Rattle.messages.proofs.put_address_head.Statement.{statement}
 use Rattle.messages.proofs.put_address_head.Tie as tie

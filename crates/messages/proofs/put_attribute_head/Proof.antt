@@ -1,5 +1,5 @@
 use Rattle.wire.proofs.Laws.{length-bytes}
-use Rattle.messages.specs.Messages.{attributeHead}
+use Rattle.messages.specs.Inner.{attributeHead}
 use borrow.Author.Needs.{needs}
 use Rattle.messages.proofs.put_attribute_head.Statement.{statement}
 use Rattle.messages.proofs.put_attribute_head.Tie as tie

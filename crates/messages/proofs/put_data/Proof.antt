@@ -2,7 +2,8 @@ use mathlib.Core.Path.{refl}
 use native.Mathlib.Omega.{arith}
 use Rattle.wire.specs.Wire.{bytesOf}
 use Rattle.wire.proofs.Laws.{wrote-then}
-use Rattle.messages.specs.Messages.{attributeHead, dataAttribute}
+use Rattle.messages.specs.Messages.{dataAttribute}
+use Rattle.messages.specs.Inner.{attributeHead}
 use Rattle.messages.proofs.Laws.{attribute-sent}
 use borrow.Author.Needs.{needs}
 use Rattle.messages.proofs.put_data.Statement.{statement}

@@ -1,6 +1,7 @@
 use mathlib.Core.Path.{refl}
 use Rattle.wire.specs.Wire.{bytesOf}
-use Rattle.messages.specs.Messages.{errorCodeAttribute, attributeHead}
+use Rattle.messages.specs.Messages.{errorCodeAttribute}
+use Rattle.messages.specs.Inner.{attributeHead}
 use borrow.Author.Needs.{needs}
 use Rattle.messages.proofs.put_error_code.Statement.{statement}
 use Rattle.messages.proofs.put_error_code.Tie as tie

@@ -2,7 +2,7 @@ use Prim.Native.Nat.{_≤_, _-_}
 use mathlib.Core.Path.{_≡_, refl}
 use lib.ListN.{take}
 use native.Mathlib.Omega.{arith}
-use Rattle.wire.specs.Wire.{Wrote}
+use Rattle.wire.specs.Inner.{Wrote}
 use Rattle.wire.proofs.Laws.{wrote-length}
 use Rattle.messages.specs.Messages.{typesBytes}
 use Rattle.messages.proofs.Laws.{wrote-type}

@@ -4,7 +4,8 @@ use lib.ListN.{take, length-take, length-drop}
 use native.Mathlib.Omega.{arith}
 use Rattle.wire.specs.Wire.{bytesOf}
 use Rattle.wire.proofs.Laws.{wrote-then}
-use Rattle.messages.specs.Messages.{attributeHead, typesBytes, unknownAttribute}
+use Rattle.messages.specs.Messages.{typesBytes, unknownAttribute}
+use Rattle.messages.specs.Inner.{attributeHead}
 use Rattle.messages.proofs.Laws.{attribute-small, attribute-sent, length-first-types}
 use borrow.Author.Needs.{needs}
 use Rattle.messages.proofs.put_unknown_attributes.Statement.{statement}

@@ -4,7 +4,8 @@ use lib.ListN.{take}
 use native.Mathlib.Omega.{arith}
 use Rattle.wire.specs.Wire.{bytesOf}
 use Rattle.wire.proofs.Laws.{wrote-then}
-use Rattle.messages.specs.Messages.{attributeSize, headerBytes, errorCodeAttribute, typesBytes, unknownAttribute, unknownResponse}
+use Rattle.messages.specs.Messages.{headerBytes, errorCodeAttribute, typesBytes, unknownAttribute, unknownResponse}
+use Rattle.messages.specs.Inner.{attributeSize}
 use Rattle.messages.proofs.Laws.{length-first-types, length-attribute, message-sent}
 use borrow.Author.Needs.{needs}
 use Rattle.messages.proofs.put_unknown_response.Statement.{statement}

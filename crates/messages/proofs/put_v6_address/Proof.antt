@@ -1,6 +1,7 @@
 use mathlib.Core.Path.{refl}
 use Rattle.wire.specs.Wire.{bytesOf}
-use Rattle.messages.specs.Messages.{addressAttribute, addressHead}
+use Rattle.messages.specs.Messages.{addressAttribute}
+use Rattle.messages.specs.Inner.{addressHead}
 use borrow.Author.Needs.{needs}
 use Rattle.messages.proofs.put_v6_address.Statement.{statement}
 use Rattle.messages.proofs.put_v6_address.Tie as tie

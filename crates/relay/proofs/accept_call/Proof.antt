@@ -1,31 +1,27 @@
 -- `relay::accept_call` meets its contract: a walk of its MIR, made by tools/rewalk.
 use Rattle.walk.proofs.Pre.{ℕ, _-_, ftrue, flft, SProp, ent, id⊢, Lfts, Shares, Fun, givenOf, tables, u8, yes, Is, owns, plain, sliceVal, MutSlice, Room, slice-vals, mut-slice-tells, ShrSlice, shr-slice-tells, owned, nothing, onEntry, Args, Vals, Triple, cited, says, needs, Stays, stay-slice, stay-none, walkOf, goes-slice, goes-none, ends-at, walked, stay-none-slice, goes-none-slice, Atoms, fullShare, URA, length, [], _∷_, List, refl, _≡_, named, Val, Memory, Routine, Heap, Calls, Loops, WpFn, FmC, Given, feqL, ‵, _⊛_, ⋆, _$_, _∵_, !, qed, by, move, drop, split, join, fsplit, fjoin, suffices, frame, done, keep, Item, whole, sub, look-in, agg, look, init, stop, hop, fld, from, load, assigns, returns, enter, alloc1, alloc0, params1, pass1, pass0, free0, and-then, no-more, land, addr}
 use Rattle.walk.proofs.Walk.{ref, shown, Of, tokens, calls-any, out, framed-calls, finish}
-use Rattle.walk.proofs.Lends.{lend-slice, back-slice, show-slice, hide-slice, copy-slice, calls-shown}
+use Rattle.walk.proofs.Lends.{lend-slice, back-slice, show-slice, hide-slice, copy-slice}
 use Rattle.relay.proofs.Rows.{call-row, call-typed, seen-row, seen-typed, outcome-row, outcome-typed}
-use Rattle.slots.proofs.Rows.{slot-row, slot-typed}
-use Rattle.relay.specs.declared.incoming.Call.{Call}
-use Rattle.relay.proofs.incoming.Call as Call-t
+use Rattle.interface.specs.declared.incoming.Call.{Call}
+use Rattle.interface.proofs.incoming.Call as Call-t
 use Rattle.rules.specs.declared.answer.Outcome.{Outcome}
 use Rattle.rules.proofs.answer.Outcome as Outcome-t
-use Rattle.relay.specs.declared.deciding.Seen.{Seen}
-use Rattle.relay.proofs.deciding.Seen as Seen-t
-use Rattle.table.specs.declared.Slot.{Slot}
-use Rattle.table.proofs.Slot as Slot-t
+use Rattle.decisions.specs.declared.Seen.{Seen}
+use Rattle.decisions.proofs.Seen as Seen-t
+use Rattle.slot.specs.declared.Slot.{Slot}
+use Rattle.slot.proofs.Slot as Slot-t
 use Rattle.relay.proofs.look_for as look-for
 use Rattle.relay.proofs.look_for.Symbol as look-for-def
 use Rattle.relay.proofs.look_for.Symbol.{name as #relay·look-for}
 use Rattle.relay.proofs.look_for.Met as look-for-thm
-use Rattle.relay.proofs.read_found as read-found
-use Rattle.relay.proofs.read_found.Symbol as read-found-def
-use Rattle.relay.proofs.read_found.Symbol.{name as #relay·read-found}
-use Rattle.relay.proofs.read_found.Met as read-found-thm
-use Rattle.relay.proofs.answer_found as answer-found
-use Rattle.relay.proofs.answer_found.Symbol as answer-found-def
-use Rattle.relay.proofs.answer_found.Symbol.{name as #relay·answer-found}
-use Rattle.relay.proofs.answer_found.Met as answer-found-thm
-use Rattle.relay.specs.Inner.{Ready, Answered}
-use Rattle.relay.proofs.Laws.{ready-user, seen-within}
+use Rattle.relay.proofs.answer_seen as answer-seen
+use Rattle.relay.proofs.answer_seen.Symbol as answer-seen-def
+use Rattle.relay.proofs.answer_seen.Symbol.{name as #relay·answer-seen}
+use Rattle.relay.proofs.answer_seen.Met as answer-seen-thm
+use Rattle.decisions.specs.Inner.{Ready}
+use Rattle.relay.specs.Inner.{Answered}
+use Rattle.decisions.proofs.Laws.{ready-user}
 use Rattle.relay.proofs.accept_call.Key.{name as #relay·accept-call}
 use Rattle.relay.proofs.accept_call as accept-call
 use Rattle.relay.proofs.accept_call.Statement as stated
@@ -83,47 +79,41 @@ module _ {M : Type 1} (𝓤 : URA M) (H : Heap 𝓤) (A : Atoms 𝓤) (W : Given
       nothing ! $ move ! (6 ∷ 0 ∷ []) $ join ! $ move ! (4 ∷ 0 ∷ []) $ join ! $ move ! (2 ∷ 0 ∷ []) $ join ! $ frame ! $
       nothing ! $ move ! (3 ∷ 0 ∷ []) $ fjoin ! $ move ! (2 ∷ 0 ∷ []) $ fjoin ! $ owned ! Call-t.the-row (Is Call-t.the-row) (call-row .makes 𝓤 H A W) call _ is-call $ fjoin ! $ move ! (1 ∷ 0 ∷ []) $ fjoin ! $ frame ! $ owned ! Outcome-t.the-row (Is Outcome-t.the-row) (outcome-row .makes 𝓤 H A W) r _ is $ done !
 
-  module _ (C : Calls 𝓤 H) (Λ : Loops 𝓤 H) (fm : FmC 𝓤 H (W .laws) C) (known-look-for : Triple 𝓤 (C #relay·look-for) (Of 𝓤 H A look-for.ended (look-for.clauses 𝓤 H A mem run))) (known-read-found : Triple 𝓤 (C #relay·read-found) (Of 𝓤 H A read-found.ended (read-found.clauses 𝓤 H A mem run))) (known-answer-found : Triple 𝓤 (C #relay·answer-found) (Of 𝓤 H A answer-found.ended (answer-found.clauses 𝓤 H A mem run))) where
+  module _ (C : Calls 𝓤 H) (Λ : Loops 𝓤 H) (fm : FmC 𝓤 H (W .laws) C) (known-look-for : Triple 𝓤 (C #relay·look-for) (Of 𝓤 H A look-for.ended (look-for.clauses 𝓤 H A mem run))) (known-answer-seen : Triple 𝓤 (C #relay·answer-seen) (Of 𝓤 H A answer-seen.ended (answer-seen.clauses 𝓤 H A mem run))) where
     walk : Room Slot-t.the-row (length slots) → Room u8 (length datagram) → Room u8 (length reply) → Ready call datagram reply → ent 𝓤 (onEntry 𝓤 H A accept-call.signature κs qs a at) (WpFn 𝓤 H C Λ code.function (sliceVal (a .0 .ptr) (length slots) ∷ call-row .val call ∷ sliceVal (a .1 .1 .0 .ptr) (length datagram) ∷ sliceVal (a .1 .1 .1 .0 .ptr) (length reply) ∷ []) Post)
     walk room-slots room-datagram room-reply asked =
         qed W ((t0 ⊛ (t1 ⊛ (t2 ⊛ ‵ ftrue))) ∷ ‵ (owns (MutSlice (named 0) (κs .0) Slot-t.the-row ∷ Call-t.the-row ∷ ShrSlice (named 1) (κs .1 .0) u8 ∷ MutSlice (named 2) (κs .1 .1 .0) u8 ∷ []) a at) ∷ []) ∵
         split ! $ move ! (1 ∷ []) $ split ! $ move ! (1 ∷ []) $ split ! $ move ! (4 ∷ []) $ fsplit ! $ move ! (1 ∷ []) $ fsplit ! $ drop ! $ fsplit ! $ move ! (1 ∷ []) $ fsplit ! $ move ! (1 ∷ []) $ keep ! (3 ∷ 7 ∷ 2 ∷ 6 ∷ 1 ∷ 4 ∷ []) $
         enter ! C Λ code.function (sliceVal (a .0 .ptr) (length slots) ∷ call-row .val call ∷ sliceVal (a .1 .1 .0 .ptr) (length datagram) ∷ sliceVal (a .1 .1 .1 .0 .ptr) (length reply) ∷ []) _ $
-        alloc1 ! (λ l₀. alloc1 ! (λ l₁. alloc1 ! (λ l₂. alloc1 ! (λ l₃. alloc1 ! (λ l₄. alloc1 ! (λ l₅. alloc1 ! (λ l₆. alloc1 ! (λ l₇. alloc1 ! (λ l₈. alloc1 ! (λ l₉. alloc1 ! (λ l₁₀. alloc1 ! (λ l₁₁. alloc1 ! (λ l₁₂. alloc1 ! (λ l₁₃. alloc1 ! (λ l₁₄. alloc0 ! $ params1 ! $
-        pass1 ! (init ! 26 refl (tt, (tt, (record { fits = room-slots .0 }, tt)))) $ pass1 ! (init ! 24 refl (call-typed 𝓤 H A W call is-call)) $ pass1 ! (init ! 22 refl (tt, (tt, (record { fits = room-datagram .0 }, tt)))) $ pass1 ! (init ! 20 refl (tt, (tt, (record { fits = room-reply .0 }, tt)))) $ pass0 ! $
-        -- the references and their tokens first: from here local k stands at 34 - 2 k
-        move ! (30 ∷ 31 ∷ 32 ∷ 33 ∷ 34 ∷ 35 ∷ []) $
-        assigns ! (addr ! (from ! (fld ! refl (hop ! (look-in ! 32 (sub ! 0 refl (whole !))) (stop !))))) (from ! (stop !)) (init ! 20 refl (tt, tt)) $
-        assigns ! (agg ! (and-then ! (load ! (from ! (stop !)) (look ! 20 refl)) (and-then ! (load ! (from ! (fld ! refl (stop !))) (look-in ! 32 (sub ! 1 refl (whole !)))) (no-more !)))) (from ! (stop !)) (init ! 18 refl (tt, (tt, (record { fits = room-slots .0 }, tt)))) $
+        alloc1 ! (λ l₀. alloc1 ! (λ l₁. alloc1 ! (λ l₂. alloc1 ! (λ l₃. alloc1 ! (λ l₄. alloc1 ! (λ l₅. alloc1 ! (λ l₆. alloc1 ! (λ l₇. alloc1 ! (λ l₈. alloc1 ! (λ l₉. alloc1 ! (λ l₁₀. alloc1 ! (λ l₁₁. alloc0 ! $ params1 ! $
+        pass1 ! (init ! 20 refl (tt, (tt, (record { fits = room-slots .0 }, tt)))) $ pass1 ! (init ! 18 refl (call-typed 𝓤 H A W call is-call)) $ pass1 ! (init ! 16 refl (tt, (tt, (record { fits = room-datagram .0 }, tt)))) $ pass1 ! (init ! 14 refl (tt, (tt, (record { fits = room-reply .0 }, tt)))) $ pass0 ! $
+        -- the references and their tokens first: from here local k stands at 28 - 2 k
+        move ! (24 ∷ 25 ∷ 26 ∷ 27 ∷ 28 ∷ 29 ∷ []) $
+        assigns ! (addr ! (from ! (fld ! refl (hop ! (look-in ! 26 (sub ! 0 refl (whole !))) (stop !))))) (from ! (stop !)) (init ! 16 refl (tt, tt)) $
+        assigns ! (agg ! (and-then ! (load ! (from ! (stop !)) (look ! 16 refl)) (and-then ! (load ! (from ! (fld ! refl (stop !))) (look-in ! 26 (sub ! 1 refl (whole !)))) (no-more !)))) (from ! (stop !)) (init ! 14 refl (tt, (tt, (record { fits = room-slots .0 }, tt)))) $
         -- `look_for`
         move ! (2 ∷ 3 ∷ []) $ copy-slice ! u8 (named 1) (a .1 .1 .0 .ptr .0) (a .1 .1 .0 .ptr .1) datagram (sliceVal (a .1 .1 .0 .ptr) (length datagram)) $
         move ! (4 ∷ 5 ∷ []) $ show-slice ! tt Slot-t.the-row (named 0) (named 0) (a .0 .ptr .0) (a .0 .ptr .1) slots (sliceVal (a .0 .ptr) (length slots)) (λ ν-look-for-slots δ-look-for-slots.
         nothing ! $ move ! (6 ∷ 0 ∷ []) $ join ! $ move ! (2 ∷ 0 ∷ []) $ join ! $ nothing ! $ owned ! Call-t.the-row (Is Call-t.the-row) (call-row .makes 𝓤 H A W) call _ is-call $ fjoin ! $ move ! (5 ∷ 0 ∷ []) $ fjoin ! $ move ! (2 ∷ 0 ∷ []) $ fjoin ! $ move ! (1 ∷ 0 ∷ []) $
         calls-any ! fm look-for.ended (look-for.clauses 𝓤 H A mem run) (ν-look-for-slots ∷ [], (κs .1 .0, tt)) (fullShare, (qs .1 .0, tt)) tt seen-row (ref (a .0 .ptr .0) (a .0 .ptr .1) δ-look-for-slots slots, (ref (a .1 .1 .0 .ptr .0) (a .1 .1 .0 .ptr .1) (a .1 .1 .0 .name) datagram, (call, tt))) (sliceVal (a .0 .ptr) (length slots) ∷ [], (sliceVal (a .1 .1 .0 .ptr) (length datagram) ∷ [], (call-row .val call ∷ [], tt))) tt (λ r ws. _) known-look-for (shown 𝓤 H A (ready-user call datagram reply asked)) (λ r ws. id⊢ 𝓤 _)
-        (and-then ! (load ! (from ! (stop !)) (look ! 19 refl)) (and-then ! (load ! (from ! (stop !)) (look ! 29 refl)) (and-then ! (load ! (from ! (stop !)) (look ! 31 refl)) (no-more !)))) (λ r-look-for ws-look-for is-look-for e-look-for.
+        (and-then ! (load ! (from ! (stop !)) (look ! 15 refl)) (and-then ! (load ! (from ! (stop !)) (look ! 23 refl)) (and-then ! (load ! (from ! (stop !)) (look ! 25 refl)) (no-more !)))) (λ r-look-for ws-look-for is-look-for e-look-for.
         split ! $ move ! (1 ∷ []) $ split ! $ move ! (1 ∷ []) $ drop ! $ move ! (2 ∷ []) $ fsplit ! $ drop ! $ move ! (2 ∷ 3 ∷ 4 ∷ []) $ hide-slice ! tt Slot-t.the-row (named 0) (a .0 .ptr .0) (a .0 .ptr .1) slots (sliceVal (a .0 .ptr) (length slots)) refl room-slots $ move ! (2 ∷ []) $ fsplit ! $ drop ! $ move ! (3 ∷ 4 ∷ 5 ∷ []) $ move ! (1 ∷ 0 ∷ 2 ∷ []) $ move ! (2 ∷ []) $ drop ! $ move ! (2 ∷ []) $ fsplit ! $ drop ! $ drop ! $
-        land ! (from ! (stop !)) (init ! 24 refl (seen-typed 𝓤 H A W r-look-for is-look-for)) $
-        assigns ! (addr ! (from ! (fld ! refl (hop ! (look-in ! 32 (sub ! 0 refl (whole !))) (stop !))))) (from ! (stop !)) (init ! 16 refl (tt, tt)) $
-        assigns ! (agg ! (and-then ! (load ! (from ! (stop !)) (look ! 16 refl)) (and-then ! (load ! (from ! (fld ! refl (stop !))) (look-in ! 32 (sub ! 1 refl (whole !)))) (no-more !)))) (from ! (stop !)) (init ! 14 refl (tt, (tt, (record { fits = room-slots .0 }, tt)))) $
-        -- `read_found`
-        move ! (2 ∷ 3 ∷ []) $
-        calls-shown ! fm Slot-t.the-row slot-row (read-found.clauses 𝓤 H A mem run) (λ r. _) (named 0) (a .0 .ptr .0) (a .0 .ptr .1) slots (sliceVal (a .0 .ptr) (length slots)) (λ ν. (r-look-for, tt)) (λ ν. (seen-row, tt)) (λ ν δ. tt) known-read-found (λ ν. (is-look-for, tt)) (λ ν δ. (shown 𝓤 H A (seen-within slots e-look-for))) (λ ν δ r ws. id⊢ 𝓤 _)
-        (λ ν δ. (and-then ! (load ! (from ! (stop !)) (look ! 14 refl)) (and-then ! (load ! (from ! (stop !)) (look ! 24 refl)) (no-more !)))) (λ r-read-found is-read-found e-read-found. land ! (from ! (stop !)) (init ! 22 refl (slot-typed 𝓤 H A W r-read-found is-read-found)) $
-        assigns ! (addr ! (from ! (fld ! refl (hop ! (look-in ! 32 (sub ! 0 refl (whole !))) (stop !))))) (from ! (stop !)) (init ! 12 refl (tt, tt)) $
-        assigns ! (agg ! (and-then ! (load ! (from ! (stop !)) (look ! 12 refl)) (and-then ! (load ! (from ! (fld ! refl (stop !))) (look-in ! 32 (sub ! 1 refl (whole !)))) (no-more !)))) (from ! (stop !)) (init ! 10 refl (tt, (tt, (record { fits = room-slots .0 }, tt)))) $
-        assigns ! (addr ! (from ! (fld ! refl (hop ! (look-in ! 26 (sub ! 0 refl (whole !))) (stop !))))) (from ! (stop !)) (init ! 8 refl (tt, tt)) $
-        assigns ! (agg ! (and-then ! (load ! (from ! (stop !)) (look ! 8 refl)) (and-then ! (load ! (from ! (fld ! refl (stop !))) (look-in ! 26 (sub ! 1 refl (whole !)))) (no-more !)))) (from ! (stop !)) (init ! 6 refl (tt, (tt, (record { fits = room-reply .0 }, tt)))) $
-        -- `answer_found`
-        move ! (4 ∷ 5 ∷ []) $ lend-slice ! tt u8 (named 2) (named 2) (a .1 .1 .1 .0 .ptr .0) (a .1 .1 .1 .0 .ptr .1) reply (sliceVal (a .1 .1 .1 .0 .ptr) (length reply)) (λ ν-answer-found-reply δ-answer-found-reply.
-        move ! (6 ∷ 7 ∷ []) $ copy-slice ! u8 (named 1) (a .1 .1 .0 .ptr .0) (a .1 .1 .0 .ptr .1) datagram (sliceVal (a .1 .1 .0 .ptr) (length datagram)) $
-        move ! (8 ∷ 9 ∷ []) $ lend-slice ! tt Slot-t.the-row (named 0) (named 0) (a .0 .ptr .0) (a .0 .ptr .1) slots (sliceVal (a .0 .ptr) (length slots)) (λ ν-answer-found-slots δ-answer-found-slots.
-        nothing ! $ move ! (10 ∷ 0 ∷ []) $ join ! $ move ! (6 ∷ 0 ∷ []) $ join ! $ move ! (2 ∷ 0 ∷ []) $ join ! $ nothing ! $ move ! (8 ∷ 0 ∷ []) $ fjoin ! $ move ! (5 ∷ 0 ∷ []) $ fjoin ! $ owned ! Slot-t.the-row (Is Slot-t.the-row) (slot-row .makes 𝓤 H A W) r-read-found _ is-read-found $ fjoin ! $ owned ! Seen-t.the-row (Is Seen-t.the-row) (seen-row .makes 𝓤 H A W) r-look-for _ is-look-for $ fjoin ! $ owned ! Call-t.the-row (Is Call-t.the-row) (call-row .makes 𝓤 H A W) call _ is-call $ fjoin ! $ move ! (2 ∷ 0 ∷ []) $ fjoin ! $ move ! (1 ∷ 0 ∷ []) $
-        calls-any ! fm answer-found.ended (answer-found.clauses 𝓤 H A mem run) (ν-answer-found-slots ∷ [], (κs .1 .0, (ν-answer-found-reply ∷ [], tt))) (fullShare, (qs .1 .0, (fullShare, tt))) tt outcome-row (ref (a .0 .ptr .0) (a .0 .ptr .1) δ-answer-found-slots slots, (call, (r-look-for, (r-read-found, (ref (a .1 .1 .0 .ptr .0) (a .1 .1 .0 .ptr .1) (a .1 .1 .0 .name) datagram, (ref (a .1 .1 .1 .0 .ptr .0) (a .1 .1 .1 .0 .ptr .1) δ-answer-found-reply reply, tt)))))) (sliceVal (a .0 .ptr) (length slots) ∷ [], (call-row .val call ∷ [], (seen-row .val r-look-for ∷ [], (slot-row .val r-read-found ∷ [], (sliceVal (a .1 .1 .0 .ptr) (length datagram) ∷ [], (sliceVal (a .1 .1 .1 .0 .ptr) (length reply) ∷ [], tt)))))) tt (λ r ws. _) known-answer-found (shown 𝓤 H A ((asked, e-look-for), e-read-found)) (λ r ws. id⊢ 𝓤 _)
-        (and-then ! (load ! (from ! (stop !)) (look ! 11 refl)) (and-then ! (load ! (from ! (stop !)) (look ! 31 refl)) (and-then ! (load ! (from ! (stop !)) (look ! 25 refl)) (and-then ! (load ! (from ! (stop !)) (look ! 23 refl)) (and-then ! (load ! (from ! (stop !)) (look ! 29 refl)) (and-then ! (load ! (from ! (stop !)) (look ! 7 refl)) (no-more !))))))) (λ r-answer-found ws-answer-found is-answer-found e-answer-found.
-        split ! $ move ! (1 ∷ []) $ split ! $ move ! (1 ∷ []) $ split ! $ move ! (1 ∷ []) $ drop ! $ move ! (3 ∷ []) $ fsplit ! $ fsplit ! $ move ! (1 ∷ []) $ feqL ! (λ l-answer-found-slots. move ! (0 ∷ 4 ∷ 5 ∷ 6 ∷ []) $ back-slice ! tt Slot-t.the-row (named 0) (a .0 .ptr .0) (a .0 .ptr .1) slots (ws-answer-found .0) (sliceVal (a .0 .ptr) (length slots)) l-answer-found-slots refl room-slots $ move ! (2 ∷ []) $ fsplit ! $ drop ! $ fsplit ! $ drop ! $ fsplit ! $ drop ! $ fsplit ! $ drop ! $ move ! (4 ∷ 5 ∷ 6 ∷ []) $ move ! (1 ∷ 0 ∷ 2 ∷ []) $ move ! (2 ∷ []) $ drop ! $ move ! (2 ∷ []) $ fsplit ! $ fsplit ! $ move ! (1 ∷ []) $ feqL ! (λ l-answer-found-reply. move ! (0 ∷ 6 ∷ 7 ∷ 8 ∷ []) $ back-slice ! tt u8 (named 2) (a .1 .1 .1 .0 .ptr .0) (a .1 .1 .1 .0 .ptr .1) reply (ws-answer-found .1 .1 .1 .1 .1 .0) (sliceVal (a .1 .1 .1 .0 .ptr) (length reply)) l-answer-found-reply refl room-reply $ move ! (2 ∷ []) $ drop ! $
-        land ! (from ! (stop !)) (init ! 34 refl (outcome-typed 𝓤 H A W r-answer-found is-answer-found)) $
-        returns ! (look ! 34 refl) $ out ! 34 refl refl $ out ! 32 refl refl $ out ! 30 refl refl $ out ! 28 refl refl $ out ! 26 refl refl $ out ! 24 refl refl $ out ! 22 refl refl $ out ! 20 refl refl $ out ! 18 refl refl $ out ! 16 refl refl $ out ! 14 refl refl $ out ! 12 refl refl $ out ! 10 refl refl $ out ! 8 refl refl $ out ! 6 refl refl $ free0 ! $
-        keep ! (4 ∷ 5 ∷ 2 ∷ 3 ∷ 0 ∷ 1 ∷ []) $ by ! (exits r-answer-found (ws-answer-found .0) (ws-answer-found .1 .1 .1 .1 .1 .0) e-answer-found l-answer-found-slots l-answer-found-reply is-answer-found))))))))))))))))))))))))
+        land ! (from ! (stop !)) (init ! 18 refl (seen-typed 𝓤 H A W r-look-for is-look-for)) $
+        assigns ! (addr ! (from ! (fld ! refl (hop ! (look-in ! 26 (sub ! 0 refl (whole !))) (stop !))))) (from ! (stop !)) (init ! 12 refl (tt, tt)) $
+        assigns ! (agg ! (and-then ! (load ! (from ! (stop !)) (look ! 12 refl)) (and-then ! (load ! (from ! (fld ! refl (stop !))) (look-in ! 26 (sub ! 1 refl (whole !)))) (no-more !)))) (from ! (stop !)) (init ! 10 refl (tt, (tt, (record { fits = room-slots .0 }, tt)))) $
+        assigns ! (addr ! (from ! (fld ! refl (hop ! (look-in ! 20 (sub ! 0 refl (whole !))) (stop !))))) (from ! (stop !)) (init ! 8 refl (tt, tt)) $
+        assigns ! (agg ! (and-then ! (load ! (from ! (stop !)) (look ! 8 refl)) (and-then ! (load ! (from ! (fld ! refl (stop !))) (look-in ! 20 (sub ! 1 refl (whole !)))) (no-more !)))) (from ! (stop !)) (init ! 6 refl (tt, (tt, (record { fits = room-reply .0 }, tt)))) $
+        -- `answer_seen`
+        move ! (4 ∷ 5 ∷ []) $ lend-slice ! tt u8 (named 2) (named 2) (a .1 .1 .1 .0 .ptr .0) (a .1 .1 .1 .0 .ptr .1) reply (sliceVal (a .1 .1 .1 .0 .ptr) (length reply)) (λ ν-answer-seen-reply δ-answer-seen-reply.
+        move ! (4 ∷ 5 ∷ []) $ copy-slice ! u8 (named 1) (a .1 .1 .0 .ptr .0) (a .1 .1 .0 .ptr .1) datagram (sliceVal (a .1 .1 .0 .ptr) (length datagram)) $
+        move ! (8 ∷ 9 ∷ []) $ lend-slice ! tt Slot-t.the-row (named 0) (named 0) (a .0 .ptr .0) (a .0 .ptr .1) slots (sliceVal (a .0 .ptr) (length slots)) (λ ν-answer-seen-slots δ-answer-seen-slots.
+        nothing ! $ move ! (10 ∷ 0 ∷ []) $ join ! $ move ! (6 ∷ 0 ∷ []) $ join ! $ move ! (2 ∷ 0 ∷ []) $ join ! $ nothing ! $ move ! (8 ∷ 0 ∷ []) $ fjoin ! $ move ! (5 ∷ 0 ∷ []) $ fjoin ! $ owned ! Seen-t.the-row (Is Seen-t.the-row) (seen-row .makes 𝓤 H A W) r-look-for _ is-look-for $ fjoin ! $ owned ! Call-t.the-row (Is Call-t.the-row) (call-row .makes 𝓤 H A W) call _ is-call $ fjoin ! $ move ! (2 ∷ 0 ∷ []) $ fjoin ! $ move ! (1 ∷ 0 ∷ []) $
+        calls-any ! fm answer-seen.ended (answer-seen.clauses 𝓤 H A mem run) (ν-answer-seen-slots ∷ [], (κs .1 .0, (ν-answer-seen-reply ∷ [], tt))) (fullShare, (qs .1 .0, (fullShare, tt))) tt outcome-row (ref (a .0 .ptr .0) (a .0 .ptr .1) δ-answer-seen-slots slots, (call, (r-look-for, (ref (a .1 .1 .0 .ptr .0) (a .1 .1 .0 .ptr .1) (a .1 .1 .0 .name) datagram, (ref (a .1 .1 .1 .0 .ptr .0) (a .1 .1 .1 .0 .ptr .1) δ-answer-seen-reply reply, tt))))) (sliceVal (a .0 .ptr) (length slots) ∷ [], (call-row .val call ∷ [], (seen-row .val r-look-for ∷ [], (sliceVal (a .1 .1 .0 .ptr) (length datagram) ∷ [], (sliceVal (a .1 .1 .1 .0 .ptr) (length reply) ∷ [], tt))))) tt (λ r ws. _) known-answer-seen (shown 𝓤 H A (asked, e-look-for)) (λ r ws. id⊢ 𝓤 _)
+        (and-then ! (load ! (from ! (stop !)) (look ! 11 refl)) (and-then ! (load ! (from ! (stop !)) (look ! 25 refl)) (and-then ! (load ! (from ! (stop !)) (look ! 19 refl)) (and-then ! (load ! (from ! (stop !)) (look ! 23 refl)) (and-then ! (load ! (from ! (stop !)) (look ! 7 refl)) (no-more !)))))) (λ r-answer-seen ws-answer-seen is-answer-seen e-answer-seen.
+        split ! $ move ! (1 ∷ []) $ split ! $ move ! (1 ∷ []) $ split ! $ move ! (1 ∷ []) $ drop ! $ move ! (3 ∷ []) $ fsplit ! $ fsplit ! $ move ! (1 ∷ []) $ feqL ! (λ l-answer-seen-slots. move ! (0 ∷ 4 ∷ 5 ∷ 6 ∷ []) $ back-slice ! tt Slot-t.the-row (named 0) (a .0 .ptr .0) (a .0 .ptr .1) slots (ws-answer-seen .0) (sliceVal (a .0 .ptr) (length slots)) l-answer-seen-slots refl room-slots $ move ! (2 ∷ []) $ fsplit ! $ drop ! $ fsplit ! $ drop ! $ fsplit ! $ drop ! $ move ! (4 ∷ 5 ∷ 6 ∷ []) $ move ! (1 ∷ 0 ∷ 2 ∷ []) $ move ! (2 ∷ []) $ drop ! $ move ! (2 ∷ []) $ fsplit ! $ fsplit ! $ move ! (1 ∷ []) $ feqL ! (λ l-answer-seen-reply. move ! (0 ∷ 6 ∷ 7 ∷ 8 ∷ []) $ back-slice ! tt u8 (named 2) (a .1 .1 .1 .0 .ptr .0) (a .1 .1 .1 .0 .ptr .1) reply (ws-answer-seen .1 .1 .1 .1 .0) (sliceVal (a .1 .1 .1 .0 .ptr) (length reply)) l-answer-seen-reply refl room-reply $ move ! (2 ∷ []) $ drop ! $
+        land ! (from ! (stop !)) (init ! 28 refl (outcome-typed 𝓤 H A W r-answer-seen is-answer-seen)) $
+        returns ! (look ! 28 refl) $ out ! 28 refl refl $ out ! 26 refl refl $ out ! 24 refl refl $ out ! 22 refl refl $ out ! 20 refl refl $ out ! 18 refl refl $ out ! 16 refl refl $ out ! 14 refl refl $ out ! 12 refl refl $ out ! 10 refl refl $ out ! 8 refl refl $ out ! 6 refl refl $ free0 ! $
+        keep ! (4 ∷ 5 ∷ 2 ∷ 3 ∷ 0 ∷ 1 ∷ []) $ by ! (exits r-answer-seen (ws-answer-seen .0) (ws-answer-seen .1 .1 .1 .1 .0) e-answer-seen l-answer-seen-slots l-answer-seen-reply is-answer-seen))))))))))))))))))))
 
 pub accept-call-spec : {M : Type 1} → stated.statement M
 unfolding code.routine
@@ -140,6 +130,5 @@ accept-call-spec 𝓤 H 𝓜 𝓖 𝓡 =
     (λ κs qs bounds a g are. needs 𝓤 (Ready (a .1 .0) (a .1 .1 .0 .now) (a .1 .1 .1 .0 .now)) _
     (walk 𝓤 H A W mem run κs qs a (are .1 .0) C Λ (framed-calls 𝓤 H 𝓜 𝓖 𝓡 code.env)
     (cited 𝓤 H (Of 𝓤 H A look-for.ended (look-for.clauses 𝓤 H A mem run)) 𝓜 𝓡 code.env #relay·look-for look-for-def.routine code.calls-relay·look-for (look-for-thm.met 𝓤 H 𝓜 𝓖 𝓡))
-    (cited 𝓤 H (Of 𝓤 H A read-found.ended (read-found.clauses 𝓤 H A mem run)) 𝓜 𝓡 code.env #relay·read-found read-found-def.routine code.calls-relay·read-found (read-found-thm.met 𝓤 H 𝓜 𝓖 𝓡))
-    (cited 𝓤 H (Of 𝓤 H A answer-found.ended (answer-found.clauses 𝓤 H A mem run)) 𝓜 𝓡 code.env #relay·answer-found answer-found-def.routine code.calls-relay·answer-found (answer-found-thm.met 𝓤 H 𝓜 𝓖 𝓡))
+    (cited 𝓤 H (Of 𝓤 H A answer-seen.ended (answer-seen.clauses 𝓤 H A mem run)) 𝓜 𝓡 code.env #relay·answer-seen answer-seen-def.routine code.calls-relay·answer-seen (answer-seen-thm.met 𝓤 H 𝓜 𝓖 𝓡))
     (are .0 .0 .1) (are .1 .1 .0 .0 .1) (are .1 .1 .1 .0 .0 .1))))

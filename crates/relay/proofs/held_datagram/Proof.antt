@@ -3,16 +3,16 @@ use Rattle.walk.proofs.Pre.{ℕ, _-_, ftrue, fat, flft, SProp, ent, emp, via, f
 use Rattle.walk.proofs.Walk.{ref, asks-none, array-row, Of, tokens, calls-any, out, framed-calls, finish}
 use Rattle.walk.proofs.Lends.{lend-slice, back-slice, copy-slice, lend-local-at, back-local-at, lend-array-at, back-array-at}
 use Rattle.relay.proofs.Rows.{call-row, call-typed, bookkeeping-row, bookkeeping-typed, outcome-row, outcome-typed, held-row, held-typed, held, table-same, is-held}
-use Rattle.slots.proofs.Rows.{slot-row}
+use Rattle.table.proofs.Rows.{slot-row}
 use Rattle.relay.specs.declared.state.Bookkeeping.{Bookkeeping}
 use Rattle.relay.proofs.state.Bookkeeping as Bookkeeping-t
-use Rattle.relay.specs.declared.incoming.Call.{Call}
-use Rattle.relay.proofs.incoming.Call as Call-t
+use Rattle.interface.specs.declared.incoming.Call.{Call}
+use Rattle.interface.proofs.incoming.Call as Call-t
 use Rattle.relay.specs.declared.Held.{Held}
 use Rattle.relay.proofs.Held as Held-t
 use Rattle.rules.specs.declared.answer.Outcome.{Outcome}
-use Rattle.table.specs.declared.Slot.{Slot}
-use Rattle.table.proofs.Slot as Slot-t
+use Rattle.slot.specs.declared.Slot.{Slot}
+use Rattle.slot.proofs.Slot as Slot-t
 use Rattle.relay.proofs.relay_datagram as relay-datagram
 use Rattle.relay.proofs.relay_datagram.Symbol as relay-datagram-def
 use Rattle.relay.proofs.relay_datagram.Symbol.{name as #relay·relay-datagram}

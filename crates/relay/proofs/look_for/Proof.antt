@@ -3,33 +3,34 @@ use Rattle.walk.proofs.Pre.{ℕ, _-_, ftrue, flft, SProp, ent, id⊢, Lfts, Sha
 use Rattle.walk.proofs.Walk.{ref, shown, asks-none, Of, tokens, calls-value, out, framed-calls, finish}
 use Rattle.walk.proofs.Lends.{calls-shared}
 use Rattle.relay.proofs.Rows.{call-row, call-typed, asked-row, asked-typed, seen-row, seen-typed}
-use Rattle.slots.proofs.Rows.{survey-row, survey-typed, wanted-row, wanted-typed}
-use Rattle.rules.specs.declared.client.Asked.{Asked}
-use Rattle.relay.specs.declared.incoming.Call.{Call}
-use Rattle.relay.proofs.incoming.Call as Call-t
-use Rattle.relay.specs.declared.deciding.Seen.{Seen}
-use Rattle.relay.proofs.deciding.Seen as Seen-t
-use Rattle.table.specs.declared.Slot.{Slot}
-use Rattle.table.proofs.Slot as Slot-t
-use Rattle.slots.specs.declared.surveys.Survey.{Survey}
-use Rattle.slots.specs.declared.keys.Wanted.{Wanted}
-use Rattle.relay.proofs.deciding.asked_for as asked-for
-use Rattle.relay.proofs.deciding.asked_for.Symbol as asked-for-def
-use Rattle.relay.proofs.deciding.asked_for.Symbol.{name as #relay·asked-for}
-use Rattle.relay.proofs.deciding.asked_for.Met as asked-for-thm
-use Rattle.relay.proofs.deciding.wanted_by as wanted-by
-use Rattle.relay.proofs.deciding.wanted_by.Symbol as wanted-by-def
-use Rattle.relay.proofs.deciding.wanted_by.Symbol.{name as #relay·wanted-by}
-use Rattle.relay.proofs.deciding.wanted_by.Met as wanted-by-thm
-use Rattle.slots.proofs.look as look
-use Rattle.slots.proofs.look.Symbol as look-def
-use Rattle.slots.proofs.look.Symbol.{name as #slots·look}
-use Rattle.slots.proofs.look.Met as look-thm
-use Rattle.relay.proofs.deciding.with_survey as with-survey
-use Rattle.relay.proofs.deciding.with_survey.Symbol as with-survey-def
-use Rattle.relay.proofs.deciding.with_survey.Symbol.{name as #relay·with-survey}
-use Rattle.relay.proofs.deciding.with_survey.Met as with-survey-thm
-use Rattle.relay.specs.Inner.{UserFits, Saw}
+use Rattle.table.proofs.Rows.{survey-row, survey-typed, wanted-row, wanted-typed}
+use Rattle.decisions.specs.declared.client.Asked.{Asked}
+use Rattle.interface.specs.declared.incoming.Call.{Call}
+use Rattle.interface.proofs.incoming.Call as Call-t
+use Rattle.decisions.specs.declared.Seen.{Seen}
+use Rattle.decisions.proofs.Seen as Seen-t
+use Rattle.slot.specs.declared.Slot.{Slot}
+use Rattle.slot.proofs.Slot as Slot-t
+use Rattle.table.specs.declared.surveys.Survey.{Survey}
+use Rattle.table.specs.declared.keys.Wanted.{Wanted}
+use Rattle.decisions.proofs.asked_for as asked-for
+use Rattle.decisions.proofs.asked_for.Symbol as asked-for-def
+use Rattle.decisions.proofs.asked_for.Symbol.{name as #decisions·asked-for}
+use Rattle.decisions.proofs.asked_for.Met as asked-for-thm
+use Rattle.decisions.proofs.wanted_by as wanted-by
+use Rattle.decisions.proofs.wanted_by.Symbol as wanted-by-def
+use Rattle.decisions.proofs.wanted_by.Symbol.{name as #decisions·wanted-by}
+use Rattle.decisions.proofs.wanted_by.Met as wanted-by-thm
+use Rattle.table.proofs.look as look
+use Rattle.table.proofs.look.Symbol as look-def
+use Rattle.table.proofs.look.Symbol.{name as #table·look}
+use Rattle.table.proofs.look.Met as look-thm
+use Rattle.decisions.proofs.with_survey as with-survey
+use Rattle.decisions.proofs.with_survey.Symbol as with-survey-def
+use Rattle.decisions.proofs.with_survey.Symbol.{name as #decisions·with-survey}
+use Rattle.decisions.proofs.with_survey.Met as with-survey-thm
+use Rattle.decisions.specs.Inner.{UserFits}
+use Rattle.relay.specs.Inner.{Saw}
 use Rattle.relay.proofs.Laws.{looked-for}
 use Rattle.relay.proofs.look_for.Key.{name as #relay·look-for}
 use Rattle.relay.proofs.look_for as look-for
@@ -79,7 +80,7 @@ module _ {M : Type 1} (𝓤 : URA M) (H : Heap 𝓤) (A : Atoms 𝓤) (W : Given
       nothing ! $ move ! (4 ∷ 0 ∷ []) $ join ! $ move ! (2 ∷ 0 ∷ []) $ join ! $ frame ! $
       nothing ! $ owned ! Call-t.the-row (Is Call-t.the-row) (call-row .makes 𝓤 H A W) call _ is-call $ fjoin ! $ move ! (2 ∷ 0 ∷ []) $ fjoin ! $ move ! (1 ∷ 0 ∷ []) $ fjoin ! $ frame ! $ owned ! Seen-t.the-row (Is Seen-t.the-row) (seen-row .makes 𝓤 H A W) r _ is $ done !
 
-  module _ (C : Calls 𝓤 H) (Λ : Loops 𝓤 H) (fm : FmC 𝓤 H (W .laws) C) (known-asked-for : Triple 𝓤 (C #relay·asked-for) (Of 𝓤 H A asked-for.ended (asked-for.clauses 𝓤 H A mem run))) (known-wanted-by : Triple 𝓤 (C #relay·wanted-by) (Of 𝓤 H A wanted-by.ended (wanted-by.clauses 𝓤 H A mem run))) (known-look : Triple 𝓤 (C #slots·look) (Of 𝓤 H A look.ended (look.clauses 𝓤 H A mem run))) (known-with-survey : Triple 𝓤 (C #relay·with-survey) (Of 𝓤 H A with-survey.ended (with-survey.clauses 𝓤 H A mem run))) where
+  module _ (C : Calls 𝓤 H) (Λ : Loops 𝓤 H) (fm : FmC 𝓤 H (W .laws) C) (known-asked-for : Triple 𝓤 (C #decisions·asked-for) (Of 𝓤 H A asked-for.ended (asked-for.clauses 𝓤 H A mem run))) (known-wanted-by : Triple 𝓤 (C #decisions·wanted-by) (Of 𝓤 H A wanted-by.ended (wanted-by.clauses 𝓤 H A mem run))) (known-look : Triple 𝓤 (C #table·look) (Of 𝓤 H A look.ended (look.clauses 𝓤 H A mem run))) (known-with-survey : Triple 𝓤 (C #decisions·with-survey) (Of 𝓤 H A with-survey.ended (with-survey.clauses 𝓤 H A mem run))) where
     walk : Room Slot-t.the-row (length slots) → Room u8 (length datagram) → UserFits call → ent 𝓤 (onEntry 𝓤 H A look-for.signature κs qs a at) (WpFn 𝓤 H C Λ code.function (sliceVal (a .0 .ptr) (length slots) ∷ sliceVal (a .1 .0 .ptr) (length datagram) ∷ call-row .val call ∷ []) Post)
     walk room-slots room-datagram asked =
         qed W ((t0 ⊛ (t1 ⊛ ‵ ftrue)) ∷ ‵ (owns (ShrSlice (named 0) (κs .0) Slot-t.the-row ∷ ShrSlice (named 1) (κs .1 .0) u8 ∷ Call-t.the-row ∷ []) a at) ∷ []) ∵
@@ -120,8 +121,8 @@ look-for-spec 𝓤 H 𝓜 𝓖 𝓡 =
     (walked 𝓤 H A look-for.ended stayed (look-for.clauses 𝓤 H A mem run) (WpFn 𝓤 H C Λ code.function) (λ κs. (slice-vals, (slice-vals, ((λ x. call-row .val x ∷ []), tt)))) (λ κs. (shr-slice-tells (named 0) (κs .0) Slot-t.the-row, (shr-slice-tells (named 1) (κs .1 .0) u8, (call-row .tells, tt))))
     (λ κs qs bounds a g are. needs 𝓤 (UserFits (a .1 .1 .0)) _
     (walk 𝓤 H A W mem run κs qs a (are .1 .1 .0) C Λ (framed-calls 𝓤 H 𝓜 𝓖 𝓡 code.env)
-    (cited 𝓤 H (Of 𝓤 H A asked-for.ended (asked-for.clauses 𝓤 H A mem run)) 𝓜 𝓡 code.env #relay·asked-for asked-for-def.routine code.calls-relay·deciding·asked-for (asked-for-thm.met 𝓤 H 𝓜 𝓖 𝓡))
-    (cited 𝓤 H (Of 𝓤 H A wanted-by.ended (wanted-by.clauses 𝓤 H A mem run)) 𝓜 𝓡 code.env #relay·wanted-by wanted-by-def.routine code.calls-relay·deciding·wanted-by (wanted-by-thm.met 𝓤 H 𝓜 𝓖 𝓡))
-    (cited 𝓤 H (Of 𝓤 H A look.ended (look.clauses 𝓤 H A mem run)) 𝓜 𝓡 code.env #slots·look look-def.routine code.calls-slots·look (look-thm.met 𝓤 H 𝓜 𝓖 𝓡))
-    (cited 𝓤 H (Of 𝓤 H A with-survey.ended (with-survey.clauses 𝓤 H A mem run)) 𝓜 𝓡 code.env #relay·with-survey with-survey-def.routine code.calls-relay·deciding·with-survey (with-survey-thm.met 𝓤 H 𝓜 𝓖 𝓡))
+    (cited 𝓤 H (Of 𝓤 H A asked-for.ended (asked-for.clauses 𝓤 H A mem run)) 𝓜 𝓡 code.env #decisions·asked-for asked-for-def.routine code.calls-decisions·asked-for (asked-for-thm.met 𝓤 H 𝓜 𝓖 𝓡))
+    (cited 𝓤 H (Of 𝓤 H A wanted-by.ended (wanted-by.clauses 𝓤 H A mem run)) 𝓜 𝓡 code.env #decisions·wanted-by wanted-by-def.routine code.calls-decisions·wanted-by (wanted-by-thm.met 𝓤 H 𝓜 𝓖 𝓡))
+    (cited 𝓤 H (Of 𝓤 H A look.ended (look.clauses 𝓤 H A mem run)) 𝓜 𝓡 code.env #table·look look-def.routine code.calls-table·look (look-thm.met 𝓤 H 𝓜 𝓖 𝓡))
+    (cited 𝓤 H (Of 𝓤 H A with-survey.ended (with-survey.clauses 𝓤 H A mem run)) 𝓜 𝓡 code.env #decisions·with-survey with-survey-def.routine code.calls-decisions·with-survey (with-survey-thm.met 𝓤 H 𝓜 𝓖 𝓡))
     (are .0 .0 .1) (are .1 .0 .0 .1))))

@@ -9,27 +9,27 @@ use Rattle.relay.proofs.Rows.{call-row, call-typed, bookkeeping-row, le
 use Rattle.relay.specs.declared.state.Bookkeeping.{Bookkeeping}
 use Rattle.relay.proofs.state.Bookkeeping as Bookkeeping-t
 use Rattle.relay.proofs.state.Bookkeeping.Laws as Bookkeeping-l
-use Rattle.relay.specs.declared.incoming.Call.{Call}
-use Rattle.relay.proofs.incoming.Call as Call-t
-use Rattle.relay.specs.declared.refusals.Lengths.{Lengths}
+use Rattle.interface.specs.declared.incoming.Call.{Call}
+use Rattle.interface.proofs.incoming.Call as Call-t
+use Rattle.interface.specs.declared.refusals.Lengths.{Lengths}
 use Rattle.rules.specs.declared.answer.Outcome.{Outcome}
 use Rattle.rules.specs.declared.answer.Outcome.the-variants.{Refused}
 use Rattle.rules.proofs.answer.Outcome as Outcome-t
 use Rattle.rules.proofs.answer.Outcome.Laws as Outcome-l
-use Rattle.table.specs.declared.Slot.{Slot}
-use Rattle.table.proofs.Slot as Slot-t
-use Rattle.relay.proofs.refusals.lengths_of as lengths-of
-use Rattle.relay.proofs.refusals.lengths_of.Symbol as lengths-of-def
-use Rattle.relay.proofs.refusals.lengths_of.Symbol.{name as #relay·lengths-of}
-use Rattle.relay.proofs.refusals.lengths_of.Met as lengths-of-thm
-use Rattle.relay.proofs.refusals.refusal as refusal
-use Rattle.relay.proofs.refusals.refusal.Symbol as refusal-def
-use Rattle.relay.proofs.refusals.refusal.Symbol.{name as #relay·refusal}
-use Rattle.relay.proofs.refusals.refusal.Met as refusal-thm
-use Rattle.relay.proofs.incoming.time_of as time-of
-use Rattle.relay.proofs.incoming.time_of.Symbol as time-of-def
-use Rattle.relay.proofs.incoming.time_of.Symbol.{name as #relay·time-of}
-use Rattle.relay.proofs.incoming.time_of.Met as time-of-thm
+use Rattle.slot.specs.declared.Slot.{Slot}
+use Rattle.slot.proofs.Slot as Slot-t
+use Rattle.interface.proofs.refusals.lengths_of as lengths-of
+use Rattle.interface.proofs.refusals.lengths_of.Symbol as lengths-of-def
+use Rattle.interface.proofs.refusals.lengths_of.Symbol.{name as #interface·lengths-of}
+use Rattle.interface.proofs.refusals.lengths_of.Met as lengths-of-thm
+use Rattle.interface.proofs.refusals.refusal as refusal
+use Rattle.interface.proofs.refusals.refusal.Symbol as refusal-def
+use Rattle.interface.proofs.refusals.refusal.Symbol.{name as #interface·refusal}
+use Rattle.interface.proofs.refusals.refusal.Met as refusal-thm
+use Rattle.interface.proofs.incoming.time_of as time-of
+use Rattle.interface.proofs.incoming.time_of.Symbol as time-of-def
+use Rattle.interface.proofs.incoming.time_of.Symbol.{name as #interface·time-of}
+use Rattle.interface.proofs.incoming.time_of.Met as time-of-thm
 use Rattle.relay.proofs.state.set_clock as set-clock
 use Rattle.relay.proofs.state.set_clock.Symbol as set-clock-def
 use Rattle.relay.proofs.state.set_clock.Symbol.{name as #relay·set-clock}
@@ -107,7 +107,7 @@ module _ {M : Type 1} (𝓤 : URA M) (H : Heap 𝓤) (A : Atoms 𝓤) (W : Given
       nothing ! $ move ! (8 ∷ 0 ∷ []) $ join ! $ move ! (6 ∷ 0 ∷ []) $ join ! $ move ! (4 ∷ 0 ∷ []) $ join ! $ move ! (2 ∷ 0 ∷ []) $ join ! $ frame ! $
       nothing ! $ move ! (4 ∷ 0 ∷ []) $ fjoin ! $ move ! (3 ∷ 0 ∷ []) $ fjoin ! $ owned ! Call-t.the-row (Is Call-t.the-row) (call-row .makes 𝓤 H A W) call _ is-call $ fjoin ! $ move ! (2 ∷ 0 ∷ []) $ fjoin ! $ move ! (1 ∷ 0 ∷ []) $ fjoin ! $ frame ! $ owned ! Outcome-t.the-row (Is Outcome-t.the-row) (outcome-row .makes 𝓤 H A W) r _ is $ done !
 
-  module _ (C : Calls 𝓤 H) (Λ : Loops 𝓤 H) (fm : FmC 𝓤 H (W .laws) C) (known-lengths-of : Triple 𝓤 (C #relay·lengths-of) (Of 𝓤 H A lengths-of.ended (lengths-of.clauses 𝓤 H A mem run))) (known-refusal : Triple 𝓤 (C #relay·refusal) (Of 𝓤 H A refusal.ended (refusal.clauses 𝓤 H A mem run))) (known-time-of : Triple 𝓤 (C #relay·time-of) (Of 𝓤 H A time-of.ended (time-of.clauses 𝓤 H A mem run))) (known-set-clock : Triple 𝓤 (C #relay·set-clock) (Of 𝓤 H A set-clock.ended (set-clock.clauses 𝓤 H A mem run))) (known-accept-call : Triple 𝓤 (C #relay·accept-call) (Of 𝓤 H A accept-call.ended (accept-call.clauses 𝓤 H A mem run))) where
+  module _ (C : Calls 𝓤 H) (Λ : Loops 𝓤 H) (fm : FmC 𝓤 H (W .laws) C) (known-lengths-of : Triple 𝓤 (C #interface·lengths-of) (Of 𝓤 H A lengths-of.ended (lengths-of.clauses 𝓤 H A mem run))) (known-refusal : Triple 𝓤 (C #interface·refusal) (Of 𝓤 H A refusal.ended (refusal.clauses 𝓤 H A mem run))) (known-time-of : Triple 𝓤 (C #interface·time-of) (Of 𝓤 H A time-of.ended (time-of.clauses 𝓤 H A mem run))) (known-set-clock : Triple 𝓤 (C #relay·set-clock) (Of 𝓤 H A set-clock.ended (set-clock.clauses 𝓤 H A mem run))) (known-accept-call : Triple 𝓤 (C #relay·accept-call) (Of 𝓤 H A accept-call.ended (accept-call.clauses 𝓤 H A mem run))) where
     walk : Room Slot-t.the-row (length slots) → Room u8 (length datagram) → Room u8 (length reply) → ent 𝓤 (onEntry 𝓤 H A relay-datagram.signature κs qs a at) (WpFn 𝓤 H C Λ code.function (sliceVal (a .0 .ptr) (length slots) ∷ vptr (a .1 .0 .ptr .0) (a .1 .0 .ptr .1) ∷ call-row .val call ∷ sliceVal (a .1 .1 .1 .0 .ptr) (length datagram) ∷ sliceVal (a .1 .1 .1 .1 .0 .ptr) (length reply) ∷ []) Post)
     walk room-slots room-datagram room-reply =
         qed W ((t0 ⊛ (t1 ⊛ (t2 ⊛ (t3 ⊛ ‵ ftrue)))) ∷ ‵ (owns (MutSlice (named 0) (κs .0) Slot-t.the-row ∷ MutRef (named 1) (κs .1 .0) Bookkeeping-t.the-row ∷ Call-t.the-row ∷ ShrSlice (named 2) (κs .1 .1 .0) u8 ∷ MutSlice (named 3) (κs .1 .1 .1 .0) u8 ∷ []) a at) ∷ []) ∵
@@ -179,9 +179,9 @@ relay-datagram-spec 𝓤 H 𝓜 𝓖 𝓡 =
     (walked 𝓤 H A relay-datagram.ended stayed (relay-datagram.clauses 𝓤 H A mem run) (WpFn 𝓤 H C Λ code.function) (λ κs. (slice-vals, (ptr-vals, ((λ x. call-row .val x ∷ []), (slice-vals, (slice-vals, tt)))))) (λ κs. (mut-slice-tells (named 0) (κs .0) Slot-t.the-row, (mut-tells (named 1) (κs .1 .0) Bookkeeping-t.the-row, (call-row .tells, (shr-slice-tells (named 2) (κs .1 .1 .0) u8, (mut-slice-tells (named 3) (κs .1 .1 .1 .0) u8, tt))))))
     (λ κs qs bounds a g are. via 𝓤 _ (fst∗ 𝓤 _ (emp 𝓤))
     (walk 𝓤 H A W mem run κs qs a (are .1 .1 .0) C Λ (framed-calls 𝓤 H 𝓜 𝓖 𝓡 code.env)
-    (cited 𝓤 H (Of 𝓤 H A lengths-of.ended (lengths-of.clauses 𝓤 H A mem run)) 𝓜 𝓡 code.env #relay·lengths-of lengths-of-def.routine code.calls-relay·refusals·lengths-of (lengths-of-thm.met 𝓤 H 𝓜 𝓖 𝓡))
-    (cited 𝓤 H (Of 𝓤 H A refusal.ended (refusal.clauses 𝓤 H A mem run)) 𝓜 𝓡 code.env #relay·refusal refusal-def.routine code.calls-relay·refusals·refusal (refusal-thm.met 𝓤 H 𝓜 𝓖 𝓡))
-    (cited 𝓤 H (Of 𝓤 H A time-of.ended (time-of.clauses 𝓤 H A mem run)) 𝓜 𝓡 code.env #relay·time-of time-of-def.routine code.calls-relay·incoming·time-of (time-of-thm.met 𝓤 H 𝓜 𝓖 𝓡))
+    (cited 𝓤 H (Of 𝓤 H A lengths-of.ended (lengths-of.clauses 𝓤 H A mem run)) 𝓜 𝓡 code.env #interface·lengths-of lengths-of-def.routine code.calls-interface·refusals·lengths-of (lengths-of-thm.met 𝓤 H 𝓜 𝓖 𝓡))
+    (cited 𝓤 H (Of 𝓤 H A refusal.ended (refusal.clauses 𝓤 H A mem run)) 𝓜 𝓡 code.env #interface·refusal refusal-def.routine code.calls-interface·refusals·refusal (refusal-thm.met 𝓤 H 𝓜 𝓖 𝓡))
+    (cited 𝓤 H (Of 𝓤 H A time-of.ended (time-of.clauses 𝓤 H A mem run)) 𝓜 𝓡 code.env #interface·time-of time-of-def.routine code.calls-interface·incoming·time-of (time-of-thm.met 𝓤 H 𝓜 𝓖 𝓡))
     (cited 𝓤 H (Of 𝓤 H A set-clock.ended (set-clock.clauses 𝓤 H A mem run)) 𝓜 𝓡 code.env #relay·set-clock set-clock-def.routine code.calls-relay·state·set-clock (set-clock-thm.met 𝓤 H 𝓜 𝓖 𝓡))
     (cited 𝓤 H (Of 𝓤 H A accept-call.ended (accept-call.clauses 𝓤 H A mem run)) 𝓜 𝓡 code.env #relay·accept-call accept-call-def.routine code.calls-relay·accept-call (accept-call-thm.met 𝓤 H 𝓜 𝓖 𝓡))
     (are .0 .0 .1) (are .1 .1 .1 .0 .0 .1) (are .1 .1 .1 .1 .0 .0 .1))))

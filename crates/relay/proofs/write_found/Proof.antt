@@ -3,37 +3,38 @@ use Rattle.walk.proofs.Pre.{ℕ, _<_, _-_, ftrue, flft, SProp, ent, id⊢, Lfts
 use Rattle.walk.proofs.Walk.{uint-row, unit-row, bool-row, ref, shown, asks-none, Of, tokens, calls-value, out, out-room, guards, holds-true, fails-false, framed-calls, finish}
 use Rattle.walk.proofs.Lends.{calls-lent}
 use Rattle.relay.proofs.Rows.{seen-row, seen-typed, outcome-row, outcome-typed, answer-row, answer-typed}
-use Rattle.slots.proofs.Rows.{slot-row, slot-typed}
+use Rattle.table.proofs.Rows.{slot-row, slot-typed}
 use Rattle.rules.specs.declared.answer.Answer.{Answer}
 use Rattle.rules.proofs.answer.Answer as Answer-t
 use Rattle.rules.specs.declared.answer.Outcome.{Outcome}
 use Rattle.rules.proofs.answer.Outcome as Outcome-t
-use Rattle.relay.specs.declared.deciding.Seen.{Seen}
-use Rattle.relay.proofs.deciding.Seen as Seen-t
-use Rattle.table.specs.declared.Slot.{Slot}
-use Rattle.table.proofs.Slot as Slot-t
-use Rattle.relay.proofs.deciding.writes_none as writes-none
-use Rattle.relay.proofs.deciding.writes_none.Symbol as writes-none-def
-use Rattle.relay.proofs.deciding.writes_none.Symbol.{name as #relay·writes-none}
-use Rattle.relay.proofs.deciding.writes_none.Met as writes-none-thm
-use Rattle.relay.proofs.deciding.outcome_of as outcome-of
-use Rattle.relay.proofs.deciding.outcome_of.Symbol as outcome-of-def
-use Rattle.relay.proofs.deciding.outcome_of.Symbol.{name as #relay·outcome-of}
-use Rattle.relay.proofs.deciding.outcome_of.Met as outcome-of-thm
-use Rattle.relay.proofs.deciding.place_for as place-for
-use Rattle.relay.proofs.deciding.place_for.Symbol as place-for-def
-use Rattle.relay.proofs.deciding.place_for.Symbol.{name as #relay·place-for}
-use Rattle.relay.proofs.deciding.place_for.Met as place-for-thm
-use Rattle.relay.proofs.deciding.slot_of as slot-of
-use Rattle.relay.proofs.deciding.slot_of.Symbol as slot-of-def
-use Rattle.relay.proofs.deciding.slot_of.Symbol.{name as #relay·slot-of}
-use Rattle.relay.proofs.deciding.slot_of.Met as slot-of-thm
-use Rattle.slots.proofs.put_slot as put-slot
-use Rattle.slots.proofs.put_slot.Symbol as put-slot-def
-use Rattle.slots.proofs.put_slot.Symbol.{name as #slots·put-slot}
-use Rattle.slots.proofs.put_slot.Met as put-slot-thm
+use Rattle.decisions.specs.declared.Seen.{Seen}
+use Rattle.decisions.proofs.Seen as Seen-t
+use Rattle.slot.specs.declared.Slot.{Slot}
+use Rattle.slot.proofs.Slot as Slot-t
+use Rattle.decisions.proofs.writes_none as writes-none
+use Rattle.decisions.proofs.writes_none.Symbol as writes-none-def
+use Rattle.decisions.proofs.writes_none.Symbol.{name as #decisions·writes-none}
+use Rattle.decisions.proofs.writes_none.Met as writes-none-thm
+use Rattle.decisions.proofs.outcome_of as outcome-of
+use Rattle.decisions.proofs.outcome_of.Symbol as outcome-of-def
+use Rattle.decisions.proofs.outcome_of.Symbol.{name as #decisions·outcome-of}
+use Rattle.decisions.proofs.outcome_of.Met as outcome-of-thm
+use Rattle.decisions.proofs.place_for as place-for
+use Rattle.decisions.proofs.place_for.Symbol as place-for-def
+use Rattle.decisions.proofs.place_for.Symbol.{name as #decisions·place-for}
+use Rattle.decisions.proofs.place_for.Met as place-for-thm
+use Rattle.decisions.proofs.slot_of as slot-of
+use Rattle.decisions.proofs.slot_of.Symbol as slot-of-def
+use Rattle.decisions.proofs.slot_of.Symbol.{name as #decisions·slot-of}
+use Rattle.decisions.proofs.slot_of.Met as slot-of-thm
+use Rattle.table.proofs.put_slot as put-slot
+use Rattle.table.proofs.put_slot.Symbol as put-slot-def
+use Rattle.table.proofs.put_slot.Symbol.{name as #table·put-slot}
+use Rattle.table.proofs.put_slot.Met as put-slot-thm
 use borrow.Author.Tests.{not-false}
-use Rattle.relay.specs.Inner.{placeIn, WroteBack}
+use Rattle.decisions.specs.Inner.{placeIn}
+use Rattle.relay.specs.Inner.{WroteBack}
 use Rattle.relay.proofs.Laws.{none-back, one-back}
 use Rattle.relay.proofs.write_found.Key.{name as #relay·write-found}
 use Rattle.relay.proofs.write_found as write-found
@@ -77,7 +78,7 @@ module _ {M : Type 1} (𝓤 : URA M) (H : Heap 𝓤) (A : Atoms 𝓤) (W : Given
       nothing ! $ move ! (2 ∷ 0 ∷ []) $ join ! $ frame ! $
       nothing ! $ owned ! Answer-t.the-row (Is Answer-t.the-row) (answer-row .makes 𝓤 H A W) answer _ is-answer $ fjoin ! $ owned ! Seen-t.the-row (Is Seen-t.the-row) (seen-row .makes 𝓤 H A W) found _ is-found $ fjoin ! $ move ! (1 ∷ 0 ∷ []) $ fjoin ! $ frame ! $ owned ! Outcome-t.the-row (Is Outcome-t.the-row) (outcome-row .makes 𝓤 H A W) r _ is $ done !
 
-  module _ (C : Calls 𝓤 H) (Λ : Loops 𝓤 H) (fm : FmC 𝓤 H (W .laws) C) (known-writes-none : Triple 𝓤 (C #relay·writes-none) (Of 𝓤 H A writes-none.ended (writes-none.clauses 𝓤 H A mem run))) (known-outcome-of : Triple 𝓤 (C #relay·outcome-of) (Of 𝓤 H A outcome-of.ended (outcome-of.clauses 𝓤 H A mem run))) (known-place-for : Triple 𝓤 (C #relay·place-for) (Of 𝓤 H A place-for.ended (place-for.clauses 𝓤 H A mem run))) (known-slot-of : Triple 𝓤 (C #relay·slot-of) (Of 𝓤 H A slot-of.ended (slot-of.clauses 𝓤 H A mem run))) (known-put-slot : Triple 𝓤 (C #slots·put-slot) (Of 𝓤 H A put-slot.ended (put-slot.clauses 𝓤 H A mem run))) where
+  module _ (C : Calls 𝓤 H) (Λ : Loops 𝓤 H) (fm : FmC 𝓤 H (W .laws) C) (known-writes-none : Triple 𝓤 (C #decisions·writes-none) (Of 𝓤 H A writes-none.ended (writes-none.clauses 𝓤 H A mem run))) (known-outcome-of : Triple 𝓤 (C #decisions·outcome-of) (Of 𝓤 H A outcome-of.ended (outcome-of.clauses 𝓤 H A mem run))) (known-place-for : Triple 𝓤 (C #decisions·place-for) (Of 𝓤 H A place-for.ended (place-for.clauses 𝓤 H A mem run))) (known-slot-of : Triple 𝓤 (C #decisions·slot-of) (Of 𝓤 H A slot-of.ended (slot-of.clauses 𝓤 H A mem run))) (known-put-slot : Triple 𝓤 (C #table·put-slot) (Of 𝓤 H A put-slot.ended (put-slot.clauses 𝓤 H A mem run))) where
     walk : Room Slot-t.the-row (length slots) → (answer .writes ≡ true → placeIn found < length slots) → ent 𝓤 (onEntry 𝓤 H A write-found.signature κs qs a at) (WpFn 𝓤 H C Λ code.function (sliceVal (a .0 .ptr) (length slots) ∷ seen-row .val found ∷ answer-row .val answer ∷ []) Post)
     walk room-slots asked =
         qed W ((t0 ⊛ ‵ ftrue) ∷ ‵ (owns (MutSlice (named 0) (κs .0) Slot-t.the-row ∷ Seen-t.the-row ∷ Answer-t.the-row ∷ []) a at) ∷ []) ∵
@@ -130,9 +131,9 @@ write-found-spec 𝓤 H 𝓜 𝓖 𝓡 =
     (walked 𝓤 H A write-found.ended stayed (write-found.clauses 𝓤 H A mem run) (WpFn 𝓤 H C Λ code.function) (λ κs. (slice-vals, ((λ x. seen-row .val x ∷ []), ((λ x. answer-row .val x ∷ []), tt)))) (λ κs. (mut-slice-tells (named 0) (κs .0) Slot-t.the-row, (seen-row .tells, (answer-row .tells, tt))))
     (λ κs qs bounds a g are. needs 𝓤 ((a .1 .1 .0) .writes ≡ true → placeIn (a .1 .0) < length (a .0 .now)) _
     (walk 𝓤 H A W mem run κs qs a (are .1 .0) (are .1 .1 .0) C Λ (framed-calls 𝓤 H 𝓜 𝓖 𝓡 code.env)
-    (cited 𝓤 H (Of 𝓤 H A writes-none.ended (writes-none.clauses 𝓤 H A mem run)) 𝓜 𝓡 code.env #relay·writes-none writes-none-def.routine code.calls-relay·deciding·writes-none (writes-none-thm.met 𝓤 H 𝓜 𝓖 𝓡))
-    (cited 𝓤 H (Of 𝓤 H A outcome-of.ended (outcome-of.clauses 𝓤 H A mem run)) 𝓜 𝓡 code.env #relay·outcome-of outcome-of-def.routine code.calls-relay·deciding·outcome-of (outcome-of-thm.met 𝓤 H 𝓜 𝓖 𝓡))
-    (cited 𝓤 H (Of 𝓤 H A place-for.ended (place-for.clauses 𝓤 H A mem run)) 𝓜 𝓡 code.env #relay·place-for place-for-def.routine code.calls-relay·deciding·place-for (place-for-thm.met 𝓤 H 𝓜 𝓖 𝓡))
-    (cited 𝓤 H (Of 𝓤 H A slot-of.ended (slot-of.clauses 𝓤 H A mem run)) 𝓜 𝓡 code.env #relay·slot-of slot-of-def.routine code.calls-relay·deciding·slot-of (slot-of-thm.met 𝓤 H 𝓜 𝓖 𝓡))
-    (cited 𝓤 H (Of 𝓤 H A put-slot.ended (put-slot.clauses 𝓤 H A mem run)) 𝓜 𝓡 code.env #slots·put-slot put-slot-def.routine code.calls-slots·put-slot (put-slot-thm.met 𝓤 H 𝓜 𝓖 𝓡))
+    (cited 𝓤 H (Of 𝓤 H A writes-none.ended (writes-none.clauses 𝓤 H A mem run)) 𝓜 𝓡 code.env #decisions·writes-none writes-none-def.routine code.calls-decisions·writes-none (writes-none-thm.met 𝓤 H 𝓜 𝓖 𝓡))
+    (cited 𝓤 H (Of 𝓤 H A outcome-of.ended (outcome-of.clauses 𝓤 H A mem run)) 𝓜 𝓡 code.env #decisions·outcome-of outcome-of-def.routine code.calls-decisions·outcome-of (outcome-of-thm.met 𝓤 H 𝓜 𝓖 𝓡))
+    (cited 𝓤 H (Of 𝓤 H A place-for.ended (place-for.clauses 𝓤 H A mem run)) 𝓜 𝓡 code.env #decisions·place-for place-for-def.routine code.calls-decisions·place-for (place-for-thm.met 𝓤 H 𝓜 𝓖 𝓡))
+    (cited 𝓤 H (Of 𝓤 H A slot-of.ended (slot-of.clauses 𝓤 H A mem run)) 𝓜 𝓡 code.env #decisions·slot-of slot-of-def.routine code.calls-decisions·slot-of (slot-of-thm.met 𝓤 H 𝓜 𝓖 𝓡))
+    (cited 𝓤 H (Of 𝓤 H A put-slot.ended (put-slot.clauses 𝓤 H A mem run)) 𝓜 𝓡 code.env #table·put-slot put-slot-def.routine code.calls-table·put-slot (put-slot-thm.met 𝓤 H 𝓜 𝓖 𝓡))
     (are .0 .0 .1))))

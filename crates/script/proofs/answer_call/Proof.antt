@@ -7,12 +7,12 @@ use borrow.Table.Referent.{fInt}
 use Rattle.relay.proofs.Rows.{call-row, call-typed, outcome-row, outcome-typed}
 use Rattle.relay.specs.declared.state.Bookkeeping.{Bookkeeping}
 use Rattle.relay.proofs.state.Bookkeeping as Bookkeeping-t
-use Rattle.relay.specs.declared.incoming.Call.{Call}
-use Rattle.relay.proofs.incoming.Call as Call-t
+use Rattle.interface.specs.declared.incoming.Call.{Call}
+use Rattle.interface.proofs.incoming.Call as Call-t
 use Rattle.rules.specs.declared.answer.Outcome.{Outcome}
 use Rattle.rules.proofs.answer.Outcome as Outcome-t
-use Rattle.table.specs.declared.Slot.{Slot}
-use Rattle.table.proofs.Slot as Slot-t
+use Rattle.slot.specs.declared.Slot.{Slot}
+use Rattle.slot.proofs.Slot as Slot-t
 use Rattle.relay.proofs.relay_datagram as relay-datagram
 use Rattle.relay.proofs.relay_datagram.Symbol as relay-datagram-def
 use Rattle.relay.proofs.relay_datagram.Symbol.{name as #relay·relay-datagram}
@@ -22,7 +22,7 @@ use Rattle.script.proofs.put_outcome.Symbol as put-outcome-def
 use Rattle.script.proofs.put_outcome.Symbol.{name as #script·put-outcome}
 use Rattle.script.proofs.put_outcome.Met as put-outcome-thm
 use Rattle.relay.specs.State.{state}
-use Rattle.script.specs.Run.{Called}
+use Rattle.script.specs.Inner.{Called}
 use Rattle.script.proofs.Run.{take-short, called}
 use Rattle.script.proofs.answer_call.Key.{name as #script·answer-call}
 use Rattle.script.proofs.answer_call as answer-call

@@ -6,38 +6,38 @@ use Rattle.relay.proofs.Rows.{call-row, call-typed}
 use Rattle.script.proofs.Rows.{readline-row, readline-typed}
 use Rattle.relay.specs.declared.state.Bookkeeping.{Bookkeeping}
 use Rattle.relay.proofs.state.Bookkeeping as Bookkeeping-t
-use Rattle.relay.specs.declared.incoming.Call.{Call}
-use Rattle.relay.proofs.incoming.Call as Call-t
-use Rattle.script.specs.declared.lines.ReadLine.{ReadLine}
-use Rattle.table.specs.declared.Slot.{Slot}
-use Rattle.table.proofs.Slot as Slot-t
+use Rattle.interface.specs.declared.incoming.Call.{Call}
+use Rattle.interface.proofs.incoming.Call as Call-t
+use Rattle.lines.specs.declared.ReadLine.{ReadLine}
+use Rattle.slot.specs.declared.Slot.{Slot}
+use Rattle.slot.proofs.Slot as Slot-t
 use Rattle.script.proofs.read_in as read-in
 use Rattle.script.proofs.read_in.Symbol as read-in-def
 use Rattle.script.proofs.read_in.Symbol.{name as #script·read-in}
 use Rattle.script.proofs.read_in.Met as read-in-thm
-use Rattle.script.proofs.lines.is_bad as is-bad
-use Rattle.script.proofs.lines.is_bad.Symbol as is-bad-def
-use Rattle.script.proofs.lines.is_bad.Symbol.{name as #script·is-bad}
-use Rattle.script.proofs.lines.is_bad.Met as is-bad-thm
+use Rattle.lines.proofs.is_bad as is-bad
+use Rattle.lines.proofs.is_bad.Symbol as is-bad-def
+use Rattle.lines.proofs.is_bad.Symbol.{name as #lines·is-bad}
+use Rattle.lines.proofs.is_bad.Met as is-bad-thm
 use Rattle.script.proofs.answers.put_bad as put-bad
 use Rattle.script.proofs.answers.put_bad.Symbol as put-bad-def
 use Rattle.script.proofs.answers.put_bad.Symbol.{name as #script·put-bad}
 use Rattle.script.proofs.answers.put_bad.Met as put-bad-thm
-use Rattle.script.proofs.lines.call_in as call-in
-use Rattle.script.proofs.lines.call_in.Symbol as call-in-def
-use Rattle.script.proofs.lines.call_in.Symbol.{name as #script·call-in}
-use Rattle.script.proofs.lines.call_in.Met as call-in-thm
-use Rattle.script.proofs.lines.length_in as length-in
-use Rattle.script.proofs.lines.length_in.Symbol as length-in-def
-use Rattle.script.proofs.lines.length_in.Symbol.{name as #script·length-in}
-use Rattle.script.proofs.lines.length_in.Met as length-in-thm
+use Rattle.lines.proofs.call_in as call-in
+use Rattle.lines.proofs.call_in.Symbol as call-in-def
+use Rattle.lines.proofs.call_in.Symbol.{name as #lines·call-in}
+use Rattle.lines.proofs.call_in.Met as call-in-thm
+use Rattle.lines.proofs.length_in as length-in
+use Rattle.lines.proofs.length_in.Symbol as length-in-def
+use Rattle.lines.proofs.length_in.Symbol.{name as #lines·length-in}
+use Rattle.lines.proofs.length_in.Met as length-in-thm
 use Rattle.script.proofs.answer_call as answer-call
 use Rattle.script.proofs.answer_call.Symbol as answer-call-def
 use Rattle.script.proofs.answer_call.Symbol.{name as #script·answer-call}
 use Rattle.script.proofs.answer_call.Met as answer-call-thm
 use borrow.Author.Tests.{ltb-false}
 use Rattle.relay.specs.State.{state}
-use Rattle.script.specs.Lines.{lineOf}
+use Rattle.lines.specs.Lines.{lineOf}
 use Rattle.script.specs.Run.{lineIn, Runs}
 use Rattle.script.proofs.Run.{runs-small, length-fits, runs-bad, runs-asks}
 use Rattle.script.proofs.run_line.Key.{name as #script·run-line}
@@ -109,7 +109,7 @@ module _ {M : Type 1} (𝓤 : URA M) (H : Heap 𝓤) (A : Atoms 𝓤) (W : Given
       nothing ! $ move ! (8 ∷ 0 ∷ []) $ join ! $ move ! (6 ∷ 0 ∷ []) $ join ! $ move ! (4 ∷ 0 ∷ []) $ join ! $ move ! (2 ∷ 0 ∷ []) $ join ! $ frame ! $
       nothing ! $ move ! (4 ∷ 0 ∷ []) $ fjoin ! $ owned ! u64 (Is u64) ((uint-row w64) .makes 𝓤 H A W) end _ (refl, g-end) $ fjoin ! $ owned ! u64 (Is u64) ((uint-row w64) .makes 𝓤 H A W) start _ (refl, g-start) $ fjoin ! $ move ! (3 ∷ 0 ∷ []) $ fjoin ! $ move ! (2 ∷ 0 ∷ []) $ fjoin ! $ move ! (1 ∷ 0 ∷ []) $ fjoin ! $ frame ! $ owned ! u64 (Is u64) ((uint-row w64) .makes 𝓤 H A W) r _ is $ done !
 
-  module _ (C : Calls 𝓤 H) (Λ : Loops 𝓤 H) (fm : FmC 𝓤 H (W .laws) C) (known-read-in : Triple 𝓤 (C #script·read-in) (Of 𝓤 H A read-in.ended (read-in.clauses 𝓤 H A mem run))) (known-is-bad : Triple 𝓤 (C #script·is-bad) (Of 𝓤 H A is-bad.ended (is-bad.clauses 𝓤 H A mem run))) (known-put-bad : Triple 𝓤 (C #script·put-bad) (Of 𝓤 H A put-bad.ended (put-bad.clauses 𝓤 H A mem run))) (known-call-in : Triple 𝓤 (C #script·call-in) (Of 𝓤 H A call-in.ended (call-in.clauses 𝓤 H A mem run))) (known-length-in : Triple 𝓤 (C #script·length-in) (Of 𝓤 H A length-in.ended (length-in.clauses 𝓤 H A mem run))) (known-answer-call : Triple 𝓤 (C #script·answer-call) (Of 𝓤 H A answer-call.ended (answer-call.clauses 𝓤 H A mem run))) where
+  module _ (C : Calls 𝓤 H) (Λ : Loops 𝓤 H) (fm : FmC 𝓤 H (W .laws) C) (known-read-in : Triple 𝓤 (C #script·read-in) (Of 𝓤 H A read-in.ended (read-in.clauses 𝓤 H A mem run))) (known-is-bad : Triple 𝓤 (C #lines·is-bad) (Of 𝓤 H A is-bad.ended (is-bad.clauses 𝓤 H A mem run))) (known-put-bad : Triple 𝓤 (C #script·put-bad) (Of 𝓤 H A put-bad.ended (put-bad.clauses 𝓤 H A mem run))) (known-call-in : Triple 𝓤 (C #lines·call-in) (Of 𝓤 H A call-in.ended (call-in.clauses 𝓤 H A mem run))) (known-length-in : Triple 𝓤 (C #lines·length-in) (Of 𝓤 H A length-in.ended (length-in.clauses 𝓤 H A mem run))) (known-answer-call : Triple 𝓤 (C #script·answer-call) (Of 𝓤 H A answer-call.ended (answer-call.clauses 𝓤 H A mem run))) where
     walk : Room Slot-t.the-row (length slots) → Room u8 (length input) → Room u8 (length output) → ent 𝓤 (onEntry 𝓤 H A run-line.signature κs qs a at) (WpFn 𝓤 H C Λ code.function (sliceVal (a .0 .ptr) (length slots) ∷ vptr (a .1 .0 .ptr .0) (a .1 .0 .ptr .1) ∷ sliceVal (a .1 .1 .0 .ptr) (length input) ∷ vint w64 start ∷ vint w64 end ∷ sliceVal (a .1 .1 .1 .1 .1 .0 .ptr) (length output) ∷ []) Post)
     walk room-slots room-input room-output =
         qed W ((t0 ⊛ (t1 ⊛ (t2 ⊛ (t3 ⊛ ‵ ftrue)))) ∷ ‵ (owns (MutSlice (named 0) (κs .0) Slot-t.the-row ∷ MutRef (named 1) (κs .1 .0) Bookkeeping-t.the-row ∷ ShrSlice (named 2) (κs .1 .1 .0) u8 ∷ u64 ∷ u64 ∷ MutSlice (named 3) (κs .1 .1 .1 .0) u8 ∷ []) a at) ∷ []) ∵
@@ -204,9 +204,9 @@ run-line-spec 𝓤 H 𝓜 𝓖 𝓡 =
     (λ κs qs bounds a g are. via 𝓤 _ (fst∗ 𝓤 _ (emp 𝓤))
     (walk 𝓤 H A W mem run κs qs a (are .1 .1 .1 .0 .1) (are .1 .1 .1 .1 .0 .1) C Λ (framed-calls 𝓤 H 𝓜 𝓖 𝓡 code.env)
     (cited 𝓤 H (Of 𝓤 H A read-in.ended (read-in.clauses 𝓤 H A mem run)) 𝓜 𝓡 code.env #script·read-in read-in-def.routine code.calls-script·read-in (read-in-thm.met 𝓤 H 𝓜 𝓖 𝓡))
-    (cited 𝓤 H (Of 𝓤 H A is-bad.ended (is-bad.clauses 𝓤 H A mem run)) 𝓜 𝓡 code.env #script·is-bad is-bad-def.routine code.calls-script·lines·is-bad (is-bad-thm.met 𝓤 H 𝓜 𝓖 𝓡))
+    (cited 𝓤 H (Of 𝓤 H A is-bad.ended (is-bad.clauses 𝓤 H A mem run)) 𝓜 𝓡 code.env #lines·is-bad is-bad-def.routine code.calls-lines·is-bad (is-bad-thm.met 𝓤 H 𝓜 𝓖 𝓡))
     (cited 𝓤 H (Of 𝓤 H A put-bad.ended (put-bad.clauses 𝓤 H A mem run)) 𝓜 𝓡 code.env #script·put-bad put-bad-def.routine code.calls-script·answers·put-bad (put-bad-thm.met 𝓤 H 𝓜 𝓖 𝓡))
-    (cited 𝓤 H (Of 𝓤 H A call-in.ended (call-in.clauses 𝓤 H A mem run)) 𝓜 𝓡 code.env #script·call-in call-in-def.routine code.calls-script·lines·call-in (call-in-thm.met 𝓤 H 𝓜 𝓖 𝓡))
-    (cited 𝓤 H (Of 𝓤 H A length-in.ended (length-in.clauses 𝓤 H A mem run)) 𝓜 𝓡 code.env #script·length-in length-in-def.routine code.calls-script·lines·length-in (length-in-thm.met 𝓤 H 𝓜 𝓖 𝓡))
+    (cited 𝓤 H (Of 𝓤 H A call-in.ended (call-in.clauses 𝓤 H A mem run)) 𝓜 𝓡 code.env #lines·call-in call-in-def.routine code.calls-lines·call-in (call-in-thm.met 𝓤 H 𝓜 𝓖 𝓡))
+    (cited 𝓤 H (Of 𝓤 H A length-in.ended (length-in.clauses 𝓤 H A mem run)) 𝓜 𝓡 code.env #lines·length-in length-in-def.routine code.calls-lines·length-in (length-in-thm.met 𝓤 H 𝓜 𝓖 𝓡))
     (cited 𝓤 H (Of 𝓤 H A answer-call.ended (answer-call.clauses 𝓤 H A mem run)) 𝓜 𝓡 code.env #script·answer-call answer-call-def.routine code.calls-script·answer-call (answer-call-thm.met 𝓤 H 𝓜 𝓖 𝓡))
     (are .0 .0 .1) (are .1 .1 .0 .0 .1) (are .1 .1 .1 .1 .1 .0 .0 .1))))

@@ -4,7 +4,8 @@ use borrow.Author.Tests.{leb-true}
 use Rattle.wire.specs.Wire.{num}
 use Rattle.choice.proofs.Laws.{both-parts}
 use Rattle.client_reader.specs.declared.Message.the-variants.{ChannelData}
-use Rattle.client_reader.specs.Reader.{plain, dataFits, channelFields}
+use Rattle.client_reader.specs.Fields.{plain}
+use Rattle.client_reader.specs.Inner.{dataFits, channelFields}
 use Rattle.client_reader.proofs.Same.{checked-if, checked-nothing}
 use Rattle.client_reader.proofs.Around.{channel-same}
 use borrow.Author.Needs.{needs}

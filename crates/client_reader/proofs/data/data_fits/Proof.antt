@@ -1,4 +1,4 @@
-use Rattle.client_reader.specs.Reader.{dataFits}
+use Rattle.client_reader.specs.Inner.{dataFits}
 use borrow.Author.Needs.{needs}
 use Rattle.client_reader.proofs.data.data_fits.Statement.{statement}
 use Rattle.client_reader.proofs.data.data_fits.Tie as tie

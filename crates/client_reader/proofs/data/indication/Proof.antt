@@ -3,7 +3,8 @@ use mathlib.Core.Bool.{true}
 use borrow.Author.Tests.{le-leb, lt-leb, leb-true}
 use Rattle.wire.specs.Wire.{num}
 use Rattle.choice.proofs.Laws.{both-parts}
-use Rattle.client_reader.specs.Reader.{plain, dataFits, indicationOf, indicationFields}
+use Rattle.client_reader.specs.Fields.{plain}
+use Rattle.client_reader.specs.Inner.{dataFits, indicationOf, indicationFields}
 use Rattle.client_reader.proofs.Same.{checked-if, checked-nothing}
 use borrow.Author.Needs.{needs}
 use Rattle.client_reader.proofs.data.indication.Statement.{statement}

@@ -1,4 +1,4 @@
-use Rattle.client_reader.specs.Reader.{indicationHead}
+use Rattle.client_reader.specs.Inner.{indicationHead}
 use borrow.Author.Needs.{needs}
 use Rattle.client_reader.proofs.data.indication_head.Statement.{statement}
 use Rattle.client_reader.proofs.data.indication_head.Tie as tie

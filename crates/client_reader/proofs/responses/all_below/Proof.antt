@@ -2,7 +2,7 @@ use Prim.Native.Nat.{_-_, _≤_}
 use mathlib.Core.Path.{_≡_, refl}
 use lib.ListN.{drop, length}
 use native.Mathlib.Omega.{arith}
-use Rattle.client_reader.specs.Reader.{allBelow}
+use Rattle.client_reader.specs.Inner.{allBelow}
 use Rattle.client_reader.proofs.Types.{below-stop, below-on, below-end}
 use borrow.Author.Needs.{needs}
 use Rattle.client_reader.proofs.responses.all_below.Statement.{statement}

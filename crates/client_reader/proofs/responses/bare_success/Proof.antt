@@ -1,4 +1,4 @@
-use Rattle.client_reader.specs.Reader.{bareFields}
+use Rattle.client_reader.specs.Inner.{bareFields}
 use Rattle.client_reader.proofs.Same.{front-size, checked-made}
 use borrow.Author.Needs.{needs}
 use Rattle.client_reader.proofs.responses.bare_success.Statement.{statement}

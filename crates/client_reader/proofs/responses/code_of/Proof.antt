@@ -1,4 +1,4 @@
-use Rattle.client_reader.specs.Reader.{codeOf}
+use Rattle.client_reader.specs.Inner.{codeOf}
 use borrow.Author.Needs.{needs}
 use Rattle.client_reader.proofs.responses.code_of.Statement.{statement}
 use Rattle.client_reader.proofs.responses.code_of.Tie as tie

@@ -1,4 +1,4 @@
-use Rattle.client_reader.specs.Reader.{countFits}
+use Rattle.client_reader.specs.Inner.{countFits}
 use borrow.Author.Needs.{needs}
 use Rattle.client_reader.proofs.responses.count_fits.Statement.{statement}
 use Rattle.client_reader.proofs.responses.count_fits.Tie as tie

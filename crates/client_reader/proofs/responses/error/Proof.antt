@@ -1,5 +1,5 @@
 use borrow.Author.Tests.{le-leb, lt-leb, eq-eqb, ne-eqb}
-use Rattle.client_reader.specs.Reader.{errorFields}
+use Rattle.client_reader.specs.Inner.{errorFields}
 use Rattle.client_reader.proofs.Same.{checked-nothing}
 use borrow.Author.Needs.{needs}
 use Rattle.client_reader.proofs.responses.error.Statement.{statement}

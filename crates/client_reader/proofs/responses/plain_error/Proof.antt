@@ -2,7 +2,7 @@ use mathlib.Core.Path.{sym, _∙_}
 use borrow.Author.Needs.{needs}
 use borrow.Author.Tests.{leb-true}
 use Rattle.choice.proofs.Laws.{both-parts}
-use Rattle.client_reader.specs.Reader.{plainErrorFields}
+use Rattle.client_reader.specs.Inner.{plainErrorFields}
 use Rattle.client_reader.proofs.Same.{front-size, checked-made, checked-nothing}
 use Rattle.client_reader.proofs.responses.plain_error.Statement.{statement}
 use Rattle.client_reader.proofs.responses.plain_error.Tie as tie

@@ -1,5 +1,5 @@
 use borrow.Author.Tests.{le-leb, lt-leb}
-use Rattle.client_reader.specs.Reader.{refreshFields}
+use Rattle.client_reader.specs.Inner.{refreshFields}
 use Rattle.client_reader.proofs.Same.{front-size, checked-made, checked-nothing}
 use borrow.Author.Needs.{needs}
 use Rattle.client_reader.proofs.responses.refresh_success.Statement.{statement}

@@ -1,7 +1,7 @@
 use Prim.Native.Nat.{_-_, _≤_}
 use mathlib.Core.Path.{_≡_, refl}
 use native.Mathlib.Omega.{arith}
-use Rattle.client_reader.specs.Reader.{typesOf, typesFrom}
+use Rattle.client_reader.specs.Inner.{typesOf, typesFrom}
 use Rattle.client_reader.proofs.Types.{types-next}
 use borrow.Author.Needs.{needs}
 use Rattle.client_reader.proofs.responses.types_of.Statement.{statement}

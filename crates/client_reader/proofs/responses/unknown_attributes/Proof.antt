@@ -2,7 +2,7 @@ use mathlib.Core.Path.{sym, _∙_}
 use borrow.Author.Needs.{needs}
 use borrow.Author.Tests.{leb-true}
 use Rattle.choice.proofs.Laws.{both-parts}
-use Rattle.client_reader.specs.Reader.{unknownFields, countFits}
+use Rattle.client_reader.specs.Inner.{unknownFields, countFits}
 use Rattle.client_reader.proofs.Same.{checked-nothing}
 use Rattle.client_reader.proofs.responses.unknown_attributes.Statement.{statement}
 use Rattle.client_reader.proofs.responses.unknown_attributes.Tie as tie

@@ -1,17 +1,18 @@
 use mathlib.Core.Path.{sym, _∙_}
-use Rattle.text.specs.Text.{line}
+use Rattle.text.specs.Text.{lineText}
 use Rattle.listing.specs.Texts.{texts}
-use Rattle.listing.specs.Listing.{fieldText, fieldsText, permissionLine}
+use Rattle.listing.specs.Inner.{fieldText, fieldsText}
+use Rattle.listing.specs.Listing.{permissionLine}
 use borrow.Author.Needs.{needs}
 use Rattle.listing.proofs.fields.permission_fields.Statement.{statement}
 use Rattle.listing.proofs.fields.permission_fields.Tie as tie
 
 returns : tie.Need-returns
-unfolding line texts fieldText fieldsText permissionLine
+unfolding lineText texts fieldText fieldsText permissionLine
 returns c = rw (sym (c .before .permission-is-live .ensures) ∙ c .if1 .taken)
 
 returns-2 : tie.Need-returns-2
-unfolding line texts fieldText fieldsText permissionLine
+unfolding lineText texts fieldText fieldsText permissionLine
 returns-2 c = rw (sym (c .before .permission-is-live .ensures) ∙ c .if1 .left)
 
 pub permission-fields-spec : {M : Type 1} → statement M

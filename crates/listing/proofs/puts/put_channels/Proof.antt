@@ -1,7 +1,7 @@
 use Prim.Native.Nat.{ℕ, _-_}
 use mathlib.Core.Path.{refl, sym}
 use native.Mathlib.Omega.{arith}
-use Rattle.table.specs.Table.{freshChannel}
+use Rattle.slot.specs.Slot.{freshChannel}
 use Rattle.listing.specs.Listing.{channelLine, channelLines}
 use Rattle.listing.proofs.Laws.{room-as, put-length, Putting, putting-start, putting-fits, putting-next, putting-end}
 use borrow.Author.Needs.{needs}

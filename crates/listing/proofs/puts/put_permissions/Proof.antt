@@ -1,7 +1,7 @@
 use Prim.Native.Nat.{ℕ, _-_}
 use mathlib.Core.Path.{refl, sym}
 use native.Mathlib.Omega.{arith}
-use Rattle.table.specs.Table.{freshPermission}
+use Rattle.slot.specs.Slot.{freshPermission}
 use Rattle.listing.specs.Listing.{permissionLine, permissionLines}
 use Rattle.listing.proofs.Laws.{room-as, put-length, Putting, putting-start, putting-fits, putting-next, putting-end}
 use borrow.Author.Needs.{needs}

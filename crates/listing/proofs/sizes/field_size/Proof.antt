@@ -1,6 +1,6 @@
 use lib.Dec.{lit≤}
 use native.Mathlib.Omega.{arith}
-use Rattle.listing.specs.Listing.{fieldText}
+use Rattle.listing.specs.Inner.{fieldText}
 use borrow.Author.Needs.{needs}
 use Rattle.listing.proofs.sizes.field_size.Statement.{statement}
 use Rattle.listing.proofs.sizes.field_size.Tie as tie

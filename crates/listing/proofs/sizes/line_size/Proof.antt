@@ -2,7 +2,7 @@ use Prim.Native.Nat.{ℕ, _-_}
 use mathlib.Core.Path.{refl}
 use native.Mathlib.Omega.{arith}
 use Rattle.listing.specs.declared.fields.Field.the-variants.{Byte}
-use Rattle.listing.specs.Listing.{fieldText, fieldsText}
+use Rattle.listing.specs.Inner.{fieldText, fieldsText}
 use Rattle.listing.proofs.Laws.{Sizing, sizing-start, sizing-next, sizing-end}
 use borrow.Author.Needs.{needs}
 use Rattle.listing.proofs.sizes.line_size.Statement.{statement}

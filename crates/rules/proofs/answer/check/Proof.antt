@@ -1,5 +1,5 @@
 use native.Mathlib.Omega.{arith}
-use Rattle.rules.specs.Act.{check}
+use Rattle.rules.specs.Change.{check}
 use Rattle.rules.proofs.answer.check.Statement.{statement}
 use Rattle.rules.proofs.answer.check.Tie as tie
 

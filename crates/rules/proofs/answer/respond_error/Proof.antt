@@ -1,6 +1,6 @@
 use native.Mathlib.Omega.{arith}
 use borrow.Author.Tests.{eq-eqb, ne-eqb}
-use Rattle.rules.specs.Act.{errorMessage}
+use Rattle.rules.specs.Change.{errorMessage}
 use Rattle.rules.proofs.Laws.{types-few, types-listed, kept-with}
 use borrow.Author.Needs.{needs}
 use Rattle.rules.proofs.answer.respond_error.Statement.{statement}

@@ -1,4 +1,4 @@
-use Rattle.stun.specs.Message.{unknowns}
+use Rattle.stun.specs.Inner.{unknowns}
 use Rattle.rules.specs.Values.{anyUnknown}
 use borrow.Author.Needs.{needs}
 use Rattle.rules.proofs.values.any_unknown.Statement.{statement}

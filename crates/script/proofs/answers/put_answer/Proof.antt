@@ -1,5 +1,5 @@
 use mathlib.Core.Path.{refl}
-use Rattle.text.specs.Text.{line}
+use Rattle.text.specs.Text.{lineText}
 use Rattle.script.specs.Answers.{sentTo, answerOf}
 use Rattle.script.proofs.Written.{sent-then}
 use borrow.Author.Needs.{needs}
@@ -7,15 +7,15 @@ use Rattle.script.proofs.answers.put_answer.Statement.{statement}
 use Rattle.script.proofs.answers.put_answer.Tie as tie
 
 returns : tie.Need-returns
-unfolding line sentTo answerOf
+unfolding lineText sentTo answerOf
 returns c = rw (c .before .before .before .before .before .before .before .before .before .outcome .given .1) (sent-then (record { wrote = c .before .before .before .before .before .before .put-letter .ensures; size = refl }) (c .before .before .put-number .ensures .0))
 
 returns-2 : tie.Need-returns-2
-unfolding line sentTo answerOf
+unfolding lineText sentTo answerOf
 returns-2 c = rw (c .before .before .before .before .enum-told .given .1) (record { wrote = c .before .before .put-letter2 .ensures; size = refl })
 
 returns-3 : tie.Need-returns-3
-unfolding line sentTo answerOf
+unfolding lineText sentTo answerOf
 returns-3 c = rw (c .before .before .before .before .before .before .before .before .before .before .outcome2 .given .1) (sent-then (record { wrote = c .before .before .before .before .before .before .put-letter3 .ensures; size = refl }) (c .before .before .put-sent .ensures .0))
 
 returns-4 : tie.Need-returns-4

@@ -1,12 +1,12 @@
 use mathlib.Core.Path.{refl}
-use Rattle.text.specs.Text.{line}
+use Rattle.text.specs.Text.{lineText}
 use Rattle.script.specs.Answers.{badAnswer}
 use borrow.Author.Needs.{needs}
 use Rattle.script.proofs.answers.put_bad.Statement.{statement}
 use Rattle.script.proofs.answers.put_bad.Tie as tie
 
 returns : tie.Need-returns
-unfolding line badAnswer
+unfolding lineText badAnswer
 returns c = record { wrote = c .before .before .put-letter .ensures; size = refl }
 
 pub put-bad-spec : {M : Type 1} → statement M

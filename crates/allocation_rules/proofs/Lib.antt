@@ -1,0 +1,2 @@
+pub mod FreePort
+pub mod Laws

@@ -1,0 +1,256 @@
+-- Every call leaves a state whose numbers are of their types.
+use Prim.Native.Nat.{ℕ, zero, suc, _+_, _<_, _≤_, _^_}
+use mathlib.Core.Path.{_≡_, refl, sym, _∙_}
+use mathlib.Core.Logic.{_⊎_, inl, inr}
+use mathlib.Core.Bool.{Bool, true, false}
+use mathlib.Core.List.{List, [], _∷_}
+use native.Mathlib.Omega.{arith}
+use lib.Dec.{eqb, lit<}
+use lib.ListN.{length, getD, set, length-set, length-replicate}
+use borrow.Author.Tests.{eqb-true, leb-true}
+use Rattle.choice.specs.Choice.{pick}
+use Rattle.choice.proofs.Laws.{both-parts}
+use Rattle.address.specs.declared.Address.{Address}
+use Rattle.address.specs.declared.TransportAddress.{TransportAddress}
+use Rattle.stun.specs.declared.message.Attribute.{Attribute}
+use Rattle.stun.specs.declared.values.AddressValue.{AddressValue}
+use Rattle.stun.specs.AttributeNumbers as attribute
+use Rattle.stun.specs.Message.{attributesFrom}
+use Rattle.stun.specs.Values.{addressAt, peersOf, peersFrom, peers, headOf, firstPeer}
+use Rattle.slot.specs.declared.Slot.{Slot}
+use Rattle.slot.specs.declared.Permission.{Permission}
+use Rattle.slot.specs.declared.Channel.{Channel}
+use Rattle.slot.specs.declared.Found.{Found}
+use Rattle.slot.specs.declared.Found.the-variants.{At, Nothing}
+use Rattle.slot.specs.declared.Placed.{Placed}
+use Rattle.slot.specs.Search.{putAt, atOr}
+use Rattle.slot.specs.Slot.{freshPermission, freshChannel, freshSlot, isChannelNumber, permissionEntry, permit, channelEntry, bind}
+use Rattle.table.specs.Table.{slotAt}
+use Rattle.decisions.specs.declared.client.Asked.{Asked}
+use Rattle.decisions.specs.declared.client.Asked.the-variants as Asked
+use Rattle.rules.specs.Change.{Out, Change, keep, write}
+use Rattle.rules.specs.Values.{lifetime, channelNumber, numberGiven}
+use Rattle.allocation_rules.specs.Allocations.{allocated, renewed, refreshed, granted, grantedRefresh}
+use Rattle.permission_rules.specs.Permissions.{permitPeer, permitAll, bound}
+use Rattle.decisions.specs.Client.{askedBy}
+use Rattle.rules.proofs.Laws.{kept-not-written}
+use Rattle.decisions.proofs.Accepted.{allocates, refreshes, permits, binds, granted-range, granted-refresh-range}
+use Rattle.interface.specs.declared.incoming.Call.{Call}
+use Rattle.interface.specs.declared.incoming.Call.the-variants.{Client, Peer}
+use Rattle.interface.specs.declared.incoming.FromClient.{FromClient}
+use Rattle.relay.specs.State.{State, empty, clockOf, atTime}
+use Rattle.relay.specs.Outcomes.{Act, refuse, stateAfter}
+use Rattle.interface.specs.Refusals.{timeOf, lengths, refusal}
+use Rattle.decisions.specs.Decisions.{asRules, roomFor, onAsked, decided}
+use Rattle.relay.specs.Step.{done, accepted, act}
+use Rattle.decisions.specs.Inner.{Ready}
+use Rattle.relay.proofs.Laws.{not-refused}
+use Rattle.client_reader.specs.Fields.{Bytes, AddressFits}
+use Rattle.client_reader.proofs.Ranges.{address-fits}
+use Rattle.history.specs.Events.{TransportFits, CallFits, Arrival, acts, next, Event, Happened, Lived}
+use Rattle.history.specs.Statement.{permissionAt, channelAt}
+use Rattle.history.specs.Fits.{AllocationFits, PermissionFits, ChannelFits, SlotFits, StateFits}
+use Rattle.history.proofs.Entries.{fresh-permissions, fresh-channels}
+use Rattle.history.proofs.FreePort.{port-fits}
+use Rattle.history.proofs.Whole.{fresh-slots}
+
+-- ---- An entry written into a list
+module _ {A : Type 0} (P : A → Type 0) (d x : A) (h : P x) where
+  set-keeps : (l : List A) (k : ℕ) → ((i : ℕ) → P (getD l i d)) → (i : ℕ) → P (getD (set l k x) i d)
+  set-keeps [] k f i = f i
+  set-keeps (y ∷ l) zero f zero = h
+  set-keeps (y ∷ l) zero f (suc i) = f (suc i)
+  set-keeps (y ∷ l) (suc k) f zero = f zero
+  set-keeps (y ∷ l) (suc k) f (suc i) = set-keeps l k (λ j. f (suc j)) i
+
+  place-keeps : (found : Found) (l : List A) → ((i : ℕ) → P (getD l i d)) → (i : ℕ) → P (getD (putAt found x l) i d)
+  unfolding putAt
+  place-keeps (At k) l f = set-keeps l k f
+  place-keeps Nothing l f = f
+
+length-place : {A : Type 0} (found : Found) (x : A) (l : List A) → length (putAt found x l) ≡ length l
+unfolding putAt
+length-place (At k) x l = length-set l k x
+length-place Nothing x l = refl
+
+-- ---- Fresh
+fresh-fits : SlotFits freshSlot
+unfolding freshSlot
+fresh-fits = record {
+  allocation = record { user = lit< tt; client = (lit< tt, lit< tt); server = (lit< tt, lit< tt); protocol = lit< tt; port = lit< tt; expiry = lit< tt };
+  eight-permissions = refl;
+  permissions = λ i. rw (fresh-permissions 8 i) (record { address = lit< tt; expiry = lit< tt });
+  eight-channels = refl;
+  channels = λ i. rw (fresh-channels 8 i) (record { number = lit< tt; peer = (lit< tt, lit< tt); expiry = lit< tt });
+}
+
+found-fits : (found : Found) (l : List Slot) → ((i : ℕ) → SlotFits (slotAt l i)) → SlotFits (atOr freshSlot found l)
+unfolding atOr
+found-fits (At k) l f = f k
+found-fits Nothing l f = fresh-fits
+
+-- ---- The addresses that a datagram carries
+module _ (s : List ℕ) (bytes : Bytes s) where
+  abbrev AllFit : List AddressValue → Type 0
+  AllFit [] = Unit
+  AllFit (v ∷ l) = TransportFits (v .peer) × AllFit l
+
+  values-fit : (l : List Attribute) → AllFit (peersOf s l)
+  unfolding peersOf
+  values-fit [] = tt
+  values-fit (a ∷ l) = go (eqb (a .number) attribute.xorPeerAddress) (values-fit l)
+    where
+      go : (b : Bool) → AllFit (peersOf s l) → AllFit (pick b (addressAt s (a .start) (a .len) ∷ peersOf s l) (peersOf s l))
+      go true f = (address-fits s bytes (a .start) (a .len), f)
+      go false f = f
+
+  peers-fit : AllFit (peers s)
+  unfolding peersFrom
+  peers-fit = values-fit (attributesFrom s 20)
+
+  first-fits : TransportFits (firstPeer s .peer)
+  unfolding firstPeer
+  first-fits = go (peers s) peers-fit
+    where
+      go : (l : List AddressValue) → AllFit l → TransportFits (headOf l .peer)
+      go [] f = (lit< tt, lit< tt)
+      go (v ∷ l) f = f .0
+
+-- ---- What is written
+module _ (t : ℕ) (soon : t ≤ 2 ^ 40) where
+  permit-fits : (a : Address) (slot : Slot) → AddressFits a → SlotFits slot → SlotFits (permit t a slot .slot)
+  unfolding permit
+  permit-fits a slot h f = record {
+    allocation = f .allocation;
+    eight-permissions = length-place (permissionEntry t a (slot .permissions)) _ (slot .permissions) ∙ f .eight-permissions;
+    permissions =
+        place-keeps PermissionFits freshPermission _ (record { address = h; expiry = omega arith }) (permissionEntry t a (slot .permissions)) (slot .permissions) (f .permissions);
+    eight-channels = f .eight-channels;
+    channels = f .channels;
+  }
+
+  bind-fits : (number : ℕ) (peer : TransportAddress) (slot : Slot) → number < 2 ^ 16 → TransportFits peer → SlotFits slot → SlotFits (bind t number peer slot .slot)
+  unfolding bind
+  bind-fits number peer slot n h f = record {
+    allocation = f .allocation;
+    eight-permissions = f .eight-permissions;
+    permissions = f .permissions;
+    eight-channels = length-place (channelEntry t number (slot .channels)) _ (slot .channels) ∙ f .eight-channels;
+    channels =
+        place-keeps ChannelFits freshChannel _ (record { number = n; peer = h; expiry = omega arith }) (channelEntry t number (slot .channels)) (slot .channels) (f .channels);
+  }
+
+  all-fit : (s : List ℕ) (bytes : Bytes s) (l : List AddressValue) (was slot : Slot) → AllFit s bytes l → SlotFits was → SlotFits slot
+      → SlotFits (permitAll t l was slot .slot)
+  unfolding permitAll permitPeer
+  all-fit s bytes [] was slot a w f = f
+  all-fit s bytes (v ∷ l) was slot a w f =
+      go (permit t (v .peer .address) slot .ok) (all-fit s bytes l was (permit t (v .peer .address) slot .slot) (a .1) w (permit-fits (v .peer .address) slot (a .0 .0) f))
+    where
+      one : Placed
+      one = permit t (v .peer .address) slot
+
+      go : (b : Bool) → SlotFits (permitAll t l was (one .slot) .slot) → SlotFits (pick b (permitAll t l was (one .slot)) (record { ok = false; slot = was }) .slot)
+      go true f = f
+      go false f = w
+
+  refreshed-fits : (seconds : ℕ) → seconds ≤ 3600 → (slot : Slot) → SlotFits slot → SlotFits (refreshed t seconds slot)
+  unfolding refreshed renewed
+  refreshed-fits seconds few slot f = go (eqb seconds 0)
+    where
+      go : (b : Bool) → SlotFits (pick b freshSlot (renewed (t + seconds) slot))
+      go true = fresh-fits
+      go false =
+          let a = f .allocation in
+          record {
+            allocation = record { user = a .user; client = a .client; server = a .server; protocol = a .protocol; port = a .port; expiry = omega arith };
+            eight-permissions = f .eight-permissions;
+            permissions = f .permissions;
+            eight-channels = f .eight-channels;
+            channels = f .channels;
+          }
+
+abbrev WritesFit : Change → Type 0
+WritesFit change = (slot : Slot) (out : Out) → change ≡ write slot out → SlotFits slot
+
+module _ (call : FromClient) (s : List ℕ) (l : List Slot) (fits : CallFits (Client call)) (bytes : Bytes s) (soon : call .time ≤ 2 ^ 40) (user : call .user ≤ 32)
+    (were : (i : ℕ) → SlotFits (slotAt l i)) where
+  allocated-fits : (port seconds : ℕ) → port < 2 ^ 16 → seconds ≤ 3600 → SlotFits (allocated (asRules call) port seconds)
+  unfolding allocated
+  allocated-fits port seconds p few = record {
+    allocation = record { user = omega arith; client = fits .1; server = fits .2; protocol = fits .3; port = p; expiry = omega arith };
+    eight-permissions = fresh-fits .eight-permissions;
+    permissions = fresh-fits .permissions;
+    eight-channels = fresh-fits .eight-channels;
+    channels = fresh-fits .channels;
+  }
+
+  at-most : (seconds : ℕ) → (seconds ≡ 0) ⊎ ((600 ≤ seconds) × (seconds ≤ 3600)) → seconds ≤ 3600
+  at-most seconds (inl z) = omega arith
+  at-most seconds (inr z) = z .1
+
+  number-fits : (number : ℕ) → isChannelNumber number ≡ true → number < 2 ^ 16
+  unfolding isChannelNumber
+  number-fits number e = let h = leb-true number 0x4fff (both-parts _ _ e .1) in omega arith
+
+  asked-fits : (asked : Asked) → WritesFit (onAsked call s l asked .change)
+  unfolding bound
+  asked-fits Asked.Allocate slot out e =
+      rw (allocates (asRules call) s slot out (roomFor call l) e .slot-is) (allocated-fits _ _ (port-fits _ _) (granted-range (lifetime s) .1))
+  asked-fits Asked.Refresh slot out e =
+      rw (refreshes (asRules call) s slot out _ _ e .slot-is)
+      (refreshed-fits (call .time) soon _ (at-most _ (granted-refresh-range (lifetime s))) _ (found-fits _ l were))
+  asked-fits Asked.CreatePermission slot out e =
+      rw (permits (asRules call) s slot out _ _ e .slot-is)
+      (all-fit (call .time) soon s bytes (peers s) _ _ (peers-fit s bytes) (found-fits _ l were) (found-fits _ l were))
+  asked-fits Asked.ChannelBind slot out e =
+      let b = binds (asRules call) s slot out _ _ e in
+      let peer = first-fits s bytes in
+      rw (b .slot-is)
+      (bind-fits (call .time) soon _ _ _ (number-fits _ (b .in-range)) peer (permit-fits (call .time) soon _ _ (peer .0) (found-fits _ l were)))
+  asked-fits Asked.Send slot out e = kept-not-written e
+  asked-fits Asked.ChannelData slot out e = kept-not-written e
+  asked-fits Asked.Nothing slot out e = kept-not-written e
+
+decided-fits : (call : Call) (s : List ℕ) (l : List Slot) (reply : List ℕ) → CallFits call → Bytes s → Ready call s reply → ((i : ℕ) → SlotFits (slotAt l i))
+    → WritesFit (decided call s l .change)
+unfolding decided
+decided-fits (Client call) s l reply fits bytes ready were = asked-fits call s l fits bytes (ready .soon) (ready .user) were (askedBy s)
+decided-fits (Peer call) s l reply fits bytes ready were = λ slot out e. kept-not-written e
+
+-- ---- One call
+done-fits : (was st : State) (found : Found) (change : Change) → StateFits st → WritesFit change → StateFits (stateAfter was (done st found change))
+done-fits was st (At k) (keep out) f w = f
+done-fits was st (At k) (write slot out) f w = record {
+  clock = f .clock;
+  sixty-four = length-set (st .slots) k slot ∙ f .sixty-four;
+  slots = set-keeps SlotFits freshSlot slot (w slot out refl) (st .slots) k (f .slots);
+}
+done-fits was st Nothing change f w = f
+
+time-fits : (call : Call) → CallFits call → timeOf call < 2 ^ 64
+time-fits (Client call) fits = fits .4
+time-fits (Peer call) fits = fits .3
+
+pub next-fits : (st : State) (a : Arrival) → StateFits st → StateFits (next st a)
+unfolding act accepted
+next-fits st a f = go (eqb number 0) refl
+  where
+    number : ℕ
+    number = refusal (clockOf st) (lengths (length (st .slots)) (length (a .datagram)) (length (a .reply))) (a .call)
+
+    go : (b : Bool) → eqb number 0 ≡ b → StateFits (stateAfter st (pick b (accepted st (a .call) (a .datagram)) (refuse number)))
+    go true e =
+        let w = not-refused (clockOf st) (st .slots) (a .datagram) (a .reply) (a .call) (eqb-true number 0 e) in
+        done-fits st (atTime (timeOf (a .call)) st) (decided (a .call) (a .datagram) (st .slots) .place) (decided (a .call) (a .datagram) (st .slots) .change)
+        (record { clock = time-fits (a .call) (a .call-fits); sixty-four = f .sixty-four; slots = f .slots })
+        (decided-fits (a .call) (a .datagram) (st .slots) (a .reply) (a .call-fits) (a .bytes) (w .ready) (f .slots))
+    go false e = f
+
+-- ---- Every list of calls
+pub empty-fits : StateFits empty
+empty-fits = record { clock = lit< tt; sixty-four = refl; slots = λ i. rw (fresh-slots 64 i) fresh-fits }
+
+pub slots-fit : (list : List Event) (first last : State) → Lived first list last → StateFits first → StateFits last
+slots-fit [] first last l f = rw (← l) f
+slots-fit (e ∷ rest) first last l f = slots-fit rest (l .0) last (l .2) (rw (l .1 .state-is) (next-fits first (e .arrival) f))

@@ -1,9 +1,0 @@
-use borrow.Author.Needs.{needs}
-use Rattle.script.proofs.lines.call_in.Statement.{statement}
-use Rattle.script.proofs.lines.call_in.Tie as tie
-
-returns : tie.Need-returns
-returns c = rw (c .from-peer .ensures, c .before .enum-told .given .1)
-
-pub call-in-spec : {M : Type 1} → statement M
-call-in-spec = tie.close (tie.spec (λ c. search needs) (λ c. search needs) (λ c. search needs) returns (λ c. search needs))

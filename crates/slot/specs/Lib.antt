@@ -1,0 +1,3 @@
+pub mod Inner
+pub mod Search
+pub mod Slot
