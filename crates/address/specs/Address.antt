@@ -1,4 +1,4 @@
--- When two addresses, peers, 5-tuples and transaction ids are the same.
+-- When two addresses, transport addresses and 5-tuples are the same.
 use mathlib.Core.Bool.{Bool, false}
 use lib.Dec.{eqb}
 use Rattle.choice.specs.Choice.{both}

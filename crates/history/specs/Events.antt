@@ -33,7 +33,7 @@ use Rattle.history.specs.Counted.{Counted, gave, kept, allowed, nothing}
 abbrev pub TransportFits : TransportAddress → Type 0
 TransportFits p = AddressFits (p .address) × (p .port < 2 ^ 16)
 
--- the numbers that a call brings are of their types (`crates/relay/src/incoming.rt`)
+-- the numbers that a call brings are of their types (`crates/interface/src/incoming.rt`)
 abbrev pub CallFits : Call → Type 0
 CallFits (Client call) =
     (call .relay < 2 ^ 32)

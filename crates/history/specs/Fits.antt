@@ -1,4 +1,4 @@
--- The numbers in the relay's state are of the types that the code gives them (`crates/table/src/lib.rt`), which a definition's numbers do not say.
+-- The numbers in the relay's state are of the types that the code gives them (`crates/slot/src/lib.rt`), which a definition's numbers do not say.
 use Prim.Native.Nat.{ℕ, _<_, _^_}
 use mathlib.Core.Path.{_≡_}
 use lib.ListN.{length}

@@ -18,17 +18,17 @@ pub data Line : Type 0 where
   bad : Line
   asks : Call → List ℕ → Line
 
-abbrev pub peerAt : Address → ℕ → TransportAddress
-peerAt address port = record { address = address; port = port }
+abbrev pub transportAddress : Address → ℕ → TransportAddress
+transportAddress address port = record { address = address; port = port }
 
 -- 'Server and relay are 203.0.113.5:3478'
 unfoldable pub callFromClient : (time user start : ℕ) → Address → ℕ → Call
 callFromClient time user start address port =
-    clientDatagram time user start 3405803781 (record { client = peerAt address port; server = peerAt (V4 3405803781) 3478; protocol = 17 })
+    clientDatagram time user start 3405803781 (record { client = transportAddress address port; server = transportAddress (V4 3405803781) 3478; protocol = 17 })
 
 -- 'the twelve bytes are zero'
 unfoldable pub callFromPeer : ℕ → Address → (port relayPort : ℕ) → Call
-callFromPeer time address port relayPort = peerDatagram time (peerAt address port) relayPort (record { high = 0; middle = 0; low = 0 })
+callFromPeer time address port relayPort = peerDatagram time (transportAddress address port) relayPort (record { high = 0; middle = 0; low = 0 })
 
 -- 'the last may be an empty hex string': a tab in it is no hex digit
 unfoldable pub withDatagram : Call → List ℕ → Line

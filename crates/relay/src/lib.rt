@@ -46,28 +46,28 @@ fn look_for(slots: &[Slot], datagram: &[u8], call: Call) -> Seen
     requires { ⌜ UserFits call ⌝ }
     ensures { λ r. ⌜ Saw (now (slots .entry)) call (now (datagram .entry)) r ⌝ }
 {
-    let what = asked_for(datagram, call);
-    let survey = look(slots, wanted_by(call, what));
-    with_survey(what, survey)
+    let asked = asked_for(datagram, call);
+    let survey = look(slots, wanted_by(call, asked));
+    with_survey(asked, survey)
 }
 
 // The slot that was found.
-fn read_found(slots: &[Slot], found: Seen) -> Slot
-    requires { ⌜ (has (found .survey .own) ≡ true) × Within (found .survey .own) (length (now slots)) ⌝ }
-    ensures { λ r. ⌜ r ≡ atOr freshSlot (found .survey .own) (now (slots .entry)) ⌝ }
+fn read_found(slots: &[Slot], seen: Seen) -> Slot
+    requires { ⌜ (has (seen .survey .own) ≡ true) × Within (seen .survey .own) (length (now slots)) ⌝ }
+    ensures { λ r. ⌜ r ≡ atOr freshSlot (seen .survey .own) (now (slots .entry)) ⌝ }
 {
-    slot_at(slots, own_place(found))
+    slot_at(slots, own_place(seen))
 }
 
 // The slot is written back where it changed.
-fn write_found(slots: &mut [Slot], found: Seen, answer: Answer) -> Outcome
-    requires { ⌜ (answer .writes ≡ true → placeIn found < length (now slots)) ⌝ }
-    ensures { λ r. ⌜ WroteBack found answer r (now (slots .entry)) (now (slots .exit)) ⌝ }
+fn write_found(slots: &mut [Slot], seen: Seen, answer: Answer) -> Outcome
+    requires { ⌜ (answer .writes ≡ true → placeIn seen < length (now slots)) ⌝ }
+    ensures { λ r. ⌜ WroteBack seen answer r (now (slots .entry)) (now (slots .exit)) ⌝ }
 {
     if writes_none(answer) {
         return outcome_of(answer);
     }
-    put_slot(slots, place_for(found), slot_of(answer));
+    put_slot(slots, place_for(seen), slot_of(answer));
     outcome_of(answer)
 }
 
@@ -75,81 +75,81 @@ fn write_found(slots: &mut [Slot], found: Seen, answer: Answer) -> Outcome
 fn answer_request(
     slots: &mut [Slot],
     call: Call,
-    found: Seen,
+    seen: Seen,
     own: Slot,
     datagram: &[u8],
     reply: &mut [u8],
 ) -> Outcome
-    requires { ⌜ (Ready call (now datagram) (now reply) × Saw (now slots) call (now datagram) found) × ((own ≡ atOr freshSlot (found .survey .own) (now slots)) × (isData (found .asked) ≡ false)) ⌝ }
+    requires { ⌜ (Ready call (now datagram) (now reply) × Saw (now slots) call (now datagram) seen) × ((own ≡ atOr freshSlot (seen .survey .own) (now slots)) × (isData (seen .asked) ≡ false)) ⌝ }
     ensures { λ r. ⌜ Answered (now (slots .entry)) call (now (datagram .entry)) r (now (slots .exit)) (now (reply .entry)) (now (reply .exit)) ⌝ }
 {
-    let answer = answer_call(datagram, reply, call, found, own);
-    write_found(slots, found, answer)
+    let answer = answer_call(datagram, reply, call, seen, own);
+    write_found(slots, seen, answer)
 }
 
 // What is decided by value about the slot that was found. Data writes none.
 fn answer_found(
     slots: &mut [Slot],
     call: Call,
-    found: Seen,
+    seen: Seen,
     own: Slot,
     datagram: &[u8],
     reply: &mut [u8],
 ) -> Outcome
-    requires { ⌜ (Ready call (now datagram) (now reply) × Saw (now slots) call (now datagram) found) × (own ≡ atOr freshSlot (found .survey .own) (now slots)) ⌝ }
+    requires { ⌜ (Ready call (now datagram) (now reply) × Saw (now slots) call (now datagram) seen) × (own ≡ atOr freshSlot (seen .survey .own) (now slots)) ⌝ }
     ensures { λ r. ⌜ Answered (now (slots .entry)) call (now (datagram .entry)) r (now (slots .exit)) (now (reply .entry)) (now (reply .exit)) ⌝ }
 {
-    if is_data(found) {
-        return pass_data(datagram, reply, call, found, own);
+    if is_data(seen) {
+        return pass_data(datagram, reply, call, seen, own);
     }
-    answer_request(slots, call, found, own, datagram, reply)
+    answer_request(slots, call, seen, own, datagram, reply)
 }
 
 // A call for which a slot was found: it is read.
 fn answer_own(
     slots: &mut [Slot],
     call: Call,
-    found: Seen,
+    seen: Seen,
     datagram: &[u8],
     reply: &mut [u8],
 ) -> Outcome
-    requires { ⌜ (Ready call (now datagram) (now reply) × Saw (now slots) call (now datagram) found) × (has (found .survey .own) ≡ true) ⌝ }
+    requires { ⌜ (Ready call (now datagram) (now reply) × Saw (now slots) call (now datagram) seen) × (has (seen .survey .own) ≡ true) ⌝ }
     ensures { λ r. ⌜ Answered (now (slots .entry)) call (now (datagram .entry)) r (now (slots .exit)) (now (reply .entry)) (now (reply .exit)) ⌝ }
 {
-    let own = read_found(slots, found);
-    answer_found(slots, call, found, own, datagram, reply)
+    let own = read_found(slots, seen);
+    answer_found(slots, call, seen, own, datagram, reply)
 }
 
 // A call for which none was found: there is none to read.
 fn answer_none(
     slots: &mut [Slot],
     call: Call,
-    found: Seen,
+    seen: Seen,
     datagram: &[u8],
     reply: &mut [u8],
 ) -> Outcome
-    requires { ⌜ (Ready call (now datagram) (now reply) × Saw (now slots) call (now datagram) found) × (has (found .survey .own) ≡ false) ⌝ }
+    requires { ⌜ (Ready call (now datagram) (now reply) × Saw (now slots) call (now datagram) seen) × (has (seen .survey .own) ≡ false) ⌝ }
     ensures { λ r. ⌜ Answered (now (slots .entry)) call (now (datagram .entry)) r (now (slots .exit)) (now (reply .entry)) (now (reply .exit)) ⌝ }
 {
-    let answer = answer_unfound(datagram, reply, call, found);
-    write_found(slots, found, answer)
+    let answer = answer_unfound(datagram, reply, call, seen);
+    write_found(slots, seen, answer)
 }
 
 // What becomes of what is asked, by whether a slot was found.
 fn answer_seen(
     slots: &mut [Slot],
     call: Call,
-    found: Seen,
+    seen: Seen,
     datagram: &[u8],
     reply: &mut [u8],
 ) -> Outcome
-    requires { ⌜ Ready call (now datagram) (now reply) × Saw (now slots) call (now datagram) found ⌝ }
+    requires { ⌜ Ready call (now datagram) (now reply) × Saw (now slots) call (now datagram) seen ⌝ }
     ensures { λ r. ⌜ Answered (now (slots .entry)) call (now (datagram .entry)) r (now (slots .exit)) (now (reply .entry)) (now (reply .exit)) ⌝ }
 {
-    if finds_none(found) {
-        return answer_none(slots, call, found, datagram, reply);
+    if finds_none(seen) {
+        return answer_none(slots, call, seen, datagram, reply);
     }
-    answer_own(slots, call, found, datagram, reply)
+    answer_own(slots, call, seen, datagram, reply)
 }
 
 // A call that is not refused: what is asked and found, and what becomes of it.
@@ -157,8 +157,8 @@ fn accept_call(slots: &mut [Slot], call: Call, datagram: &[u8], reply: &mut [u8]
     requires { ⌜ Ready call (now datagram) (now reply) ⌝ }
     ensures { λ r. ⌜ Answered (now (slots .entry)) call (now (datagram .entry)) r (now (slots .exit)) (now (reply .entry)) (now (reply .exit)) ⌝ }
 {
-    let found = look_for(slots, datagram, call);
-    answer_seen(slots, call, found, datagram, reply)
+    let seen = look_for(slots, datagram, call);
+    answer_seen(slots, call, seen, datagram, reply)
 }
 
 // A client's or a peer's datagram.

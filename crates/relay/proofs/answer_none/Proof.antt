@@ -36,15 +36,15 @@ use Rattle.relay.proofs.answer_none.Code as code
 abbrev stayed : Stays (answer-none.ended .signature .params) (answer-none.ended .kept)
 stayed = (stay-slice (0 ∷ []) tt (plain (λ _. Slot-t.the-row)), (stay-none (λ _. Call-t.the-row) yes, (stay-none (λ _. Seen-t.the-row) yes, (stay-none-slice (1 ∷ []) tt (plain (λ _. u8)) yes, (stay-slice (2 ∷ []) tt (plain (λ _. u8)), tt)))))
 
-module _ {M : Type 1} (𝓤 : URA M) (H : Heap 𝓤) (A : Atoms 𝓤) (W : Given 𝓤 H A) (mem : Memory → SProp 𝓤) (run : Routine → Fun 𝓤) (κs : Lfts 3) (qs : Shares 3) (a : Args answer-none.signature κs) (is-call : Is Call-t.the-row (a .1 .0) (call-row .val (a .1 .0) ∷ [])) (is-found : Is Seen-t.the-row (a .1 .1 .0) (seen-row .val (a .1 .1 .0) ∷ [])) where
+module _ {M : Type 1} (𝓤 : URA M) (H : Heap 𝓤) (A : Atoms 𝓤) (W : Given 𝓤 H A) (mem : Memory → SProp 𝓤) (run : Routine → Fun 𝓤) (κs : Lfts 3) (qs : Shares 3) (a : Args answer-none.signature κs) (is-call : Is Call-t.the-row (a .1 .0) (call-row .val (a .1 .0) ∷ [])) (is-seen : Is Seen-t.the-row (a .1 .1 .0) (seen-row .val (a .1 .1 .0) ∷ [])) where
   abbrev slots : List Slot
   slots = a .0 .now
 
   abbrev call : Call
   call = a .1 .0
 
-  abbrev found : Seen
-  found = a .1 .1 .0
+  abbrev seen : Seen
+  seen = a .1 .1 .0
 
   abbrev datagram : List ℕ
   datagram = a .1 .1 .1 .0 .now
@@ -53,7 +53,7 @@ module _ {M : Type 1} (𝓤 : URA M) (H : Heap 𝓤) (A : Atoms 𝓤) (W : Given
   reply = a .1 .1 .1 .1 .0 .now
 
   abbrev at : Vals answer-none.signature κs
-  at = (sliceVal (a .0 .ptr) (length slots) ∷ [], (call-row .val call ∷ [], (seen-row .val found ∷ [], (sliceVal (a .1 .1 .1 .0 .ptr) (length datagram) ∷ [], (sliceVal (a .1 .1 .1 .1 .0 .ptr) (length reply) ∷ [], tt)))))
+  at = (sliceVal (a .0 .ptr) (length slots) ∷ [], (call-row .val call ∷ [], (seen-row .val seen ∷ [], (sliceVal (a .1 .1 .1 .0 .ptr) (length datagram) ∷ [], (sliceVal (a .1 .1 .1 .1 .0 .ptr) (length reply) ∷ [], tt)))))
 
   abbrev Own-slots : List Slot → Item 𝓤
   Own-slots v = ‵ (MutSlice (named 0) (κs .0) Slot-t.the-row .own (ref (a .0 .ptr .0) (a .0 .ptr .1) (a .0 .name) v) (sliceVal (a .0 .ptr) (length slots) ∷ []))
@@ -86,16 +86,16 @@ module _ {M : Type 1} (𝓤 : URA M) (H : Heap 𝓤) (A : Atoms 𝓤) (W : Given
       qed W (Own-slots z-slots ∷ t0 ∷ Own-datagram datagram ∷ t1 ∷ Own-reply z-reply ∷ t2 ∷ []) ∵
       suffices ! _ (ends-at 𝓤 H A answer-none.ended stayed (answer-none.clauses 𝓤 H A mem run) W ((κs, qs, tt, a, at), tt) (outcome-row .val r) r (z-slots, (tt, (tt, (tt, (z-reply, tt))))) (l-slots, (tt, (tt, (tt, (l-reply, tt)))))) $ says ! e $
       nothing ! $ move ! (6 ∷ 0 ∷ []) $ join ! $ move ! (4 ∷ 0 ∷ []) $ join ! $ move ! (2 ∷ 0 ∷ []) $ join ! $ frame ! $
-      nothing ! $ move ! (3 ∷ 0 ∷ []) $ fjoin ! $ move ! (2 ∷ 0 ∷ []) $ fjoin ! $ owned ! Seen-t.the-row (Is Seen-t.the-row) (seen-row .makes 𝓤 H A W) found _ is-found $ fjoin ! $ owned ! Call-t.the-row (Is Call-t.the-row) (call-row .makes 𝓤 H A W) call _ is-call $ fjoin ! $ move ! (1 ∷ 0 ∷ []) $ fjoin ! $ frame ! $ owned ! Outcome-t.the-row (Is Outcome-t.the-row) (outcome-row .makes 𝓤 H A W) r _ is $ done !
+      nothing ! $ move ! (3 ∷ 0 ∷ []) $ fjoin ! $ move ! (2 ∷ 0 ∷ []) $ fjoin ! $ owned ! Seen-t.the-row (Is Seen-t.the-row) (seen-row .makes 𝓤 H A W) seen _ is-seen $ fjoin ! $ owned ! Call-t.the-row (Is Call-t.the-row) (call-row .makes 𝓤 H A W) call _ is-call $ fjoin ! $ move ! (1 ∷ 0 ∷ []) $ fjoin ! $ frame ! $ owned ! Outcome-t.the-row (Is Outcome-t.the-row) (outcome-row .makes 𝓤 H A W) r _ is $ done !
 
   module _ (C : Calls 𝓤 H) (Λ : Loops 𝓤 H) (fm : FmC 𝓤 H (W .laws) C) (known-answer-unfound : Triple 𝓤 (C #decisions·answer-unfound) (Of 𝓤 H A answer-unfound.ended (answer-unfound.clauses 𝓤 H A mem run))) (known-write-found : Triple 𝓤 (C #relay·write-found) (Of 𝓤 H A write-found.ended (write-found.clauses 𝓤 H A mem run))) where
-    walk : Room Slot-t.the-row (length slots) → Room u8 (length datagram) → Room u8 (length reply) → (Ready call datagram reply × Saw slots call datagram found) × (has (found .survey .own) ≡ false) → ent 𝓤 (onEntry 𝓤 H A answer-none.signature κs qs a at) (WpFn 𝓤 H C Λ code.function (sliceVal (a .0 .ptr) (length slots) ∷ call-row .val call ∷ seen-row .val found ∷ sliceVal (a .1 .1 .1 .0 .ptr) (length datagram) ∷ sliceVal (a .1 .1 .1 .1 .0 .ptr) (length reply) ∷ []) Post)
+    walk : Room Slot-t.the-row (length slots) → Room u8 (length datagram) → Room u8 (length reply) → (Ready call datagram reply × Saw slots call datagram seen) × (has (seen .survey .own) ≡ false) → ent 𝓤 (onEntry 𝓤 H A answer-none.signature κs qs a at) (WpFn 𝓤 H C Λ code.function (sliceVal (a .0 .ptr) (length slots) ∷ call-row .val call ∷ seen-row .val seen ∷ sliceVal (a .1 .1 .1 .0 .ptr) (length datagram) ∷ sliceVal (a .1 .1 .1 .1 .0 .ptr) (length reply) ∷ []) Post)
     walk room-slots room-datagram room-reply asked =
         qed W ((t0 ⊛ (t1 ⊛ (t2 ⊛ ‵ ftrue))) ∷ ‵ (owns (MutSlice (named 0) (κs .0) Slot-t.the-row ∷ Call-t.the-row ∷ Seen-t.the-row ∷ ShrSlice (named 1) (κs .1 .0) u8 ∷ MutSlice (named 2) (κs .1 .1 .0) u8 ∷ []) a at) ∷ []) ∵
         split ! $ move ! (1 ∷ []) $ split ! $ move ! (1 ∷ []) $ split ! $ move ! (4 ∷ []) $ fsplit ! $ move ! (1 ∷ []) $ fsplit ! $ drop ! $ fsplit ! $ drop ! $ fsplit ! $ move ! (1 ∷ []) $ fsplit ! $ move ! (1 ∷ []) $ keep ! (3 ∷ 7 ∷ 2 ∷ 6 ∷ 1 ∷ 4 ∷ []) $
-        enter ! C Λ code.function (sliceVal (a .0 .ptr) (length slots) ∷ call-row .val call ∷ seen-row .val found ∷ sliceVal (a .1 .1 .1 .0 .ptr) (length datagram) ∷ sliceVal (a .1 .1 .1 .1 .0 .ptr) (length reply) ∷ []) _ $
+        enter ! C Λ code.function (sliceVal (a .0 .ptr) (length slots) ∷ call-row .val call ∷ seen-row .val seen ∷ sliceVal (a .1 .1 .1 .0 .ptr) (length datagram) ∷ sliceVal (a .1 .1 .1 .1 .0 .ptr) (length reply) ∷ []) _ $
         alloc1 ! (λ l₀. alloc1 ! (λ l₁. alloc1 ! (λ l₂. alloc1 ! (λ l₃. alloc1 ! (λ l₄. alloc1 ! (λ l₅. alloc1 ! (λ l₆. alloc1 ! (λ l₇. alloc1 ! (λ l₈. alloc1 ! (λ l₉. alloc1 ! (λ l₁₀. alloc0 ! $ params1 ! $
-        pass1 ! (init ! 18 refl (tt, (tt, (record { fits = room-slots .0 }, tt)))) $ pass1 ! (init ! 16 refl (call-typed 𝓤 H A W call is-call)) $ pass1 ! (init ! 14 refl (seen-typed 𝓤 H A W found is-found)) $ pass1 ! (init ! 12 refl (tt, (tt, (record { fits = room-datagram .0 }, tt)))) $ pass1 ! (init ! 10 refl (tt, (tt, (record { fits = room-reply .0 }, tt)))) $ pass0 ! $
+        pass1 ! (init ! 18 refl (tt, (tt, (record { fits = room-slots .0 }, tt)))) $ pass1 ! (init ! 16 refl (call-typed 𝓤 H A W call is-call)) $ pass1 ! (init ! 14 refl (seen-typed 𝓤 H A W seen is-seen)) $ pass1 ! (init ! 12 refl (tt, (tt, (record { fits = room-datagram .0 }, tt)))) $ pass1 ! (init ! 10 refl (tt, (tt, (record { fits = room-reply .0 }, tt)))) $ pass0 ! $
         -- the references and their tokens first: from here local k stands at 26 - 2 k
         move ! (22 ∷ 23 ∷ 24 ∷ 25 ∷ 26 ∷ 27 ∷ []) $
         assigns ! (addr ! (from ! (fld ! refl (hop ! (look-in ! 16 (sub ! 0 refl (whole !))) (stop !))))) (from ! (stop !)) (init ! 12 refl (tt, tt)) $
@@ -103,17 +103,17 @@ module _ {M : Type 1} (𝓤 : URA M) (H : Heap 𝓤) (A : Atoms 𝓤) (W : Given
         -- `answer_unfound`
         move ! (4 ∷ 5 ∷ []) $
         move ! (4 ∷ 5 ∷ []) $
-        calls-both ! fm u8 u8 answer-row (answer-unfound.clauses 𝓤 H A mem run) (λ r zs. Answering call (found .asked) (λ (l : List Slot). decided call datagram l .change) (found .survey) freshSlot reply zs r) (named 1) (a .1 .1 .1 .0 .ptr .0) (a .1 .1 .1 .0 .ptr .1) datagram (sliceVal (a .1 .1 .1 .0 .ptr) (length datagram)) (named 2) (a .1 .1 .1 .1 .0 .ptr .0) (a .1 .1 .1 .1 .0 .ptr .1) reply (sliceVal (a .1 .1 .1 .1 .0 .ptr) (length reply)) (λ ν. (call, (found, tt))) (λ ν. (call-row, (seen-row, tt))) (λ ν δ. tt) known-answer-unfound (λ ν. (is-call, (is-found, tt))) (λ ν δ. (shown 𝓤 H A ((asked .0 .0, asked .0 .1 .asked), asked .1))) (λ ν δ r ws. id⊢ 𝓤 _)
+        calls-both ! fm u8 u8 answer-row (answer-unfound.clauses 𝓤 H A mem run) (λ r zs. Answering call (seen .asked) (λ (l : List Slot). decided call datagram l .change) (seen .survey) freshSlot reply zs r) (named 1) (a .1 .1 .1 .0 .ptr .0) (a .1 .1 .1 .0 .ptr .1) datagram (sliceVal (a .1 .1 .1 .0 .ptr) (length datagram)) (named 2) (a .1 .1 .1 .1 .0 .ptr .0) (a .1 .1 .1 .1 .0 .ptr .1) reply (sliceVal (a .1 .1 .1 .1 .0 .ptr) (length reply)) (λ ν. (call, (seen, tt))) (λ ν. (call-row, (seen-row, tt))) (λ ν δ. tt) known-answer-unfound (λ ν. (is-call, (is-seen, tt))) (λ ν δ. (shown 𝓤 H A ((asked .0 .0, asked .0 .1 .asked), asked .1))) (λ ν δ r ws. id⊢ 𝓤 _)
         (λ ν δ. (and-then ! (load ! (from ! (stop !)) (look ! 18 refl)) (and-then ! (load ! (from ! (stop !)) (look ! 10 refl)) (and-then ! (load ! (from ! (stop !)) (look ! 22 refl)) (and-then ! (load ! (from ! (stop !)) (look ! 20 refl)) (no-more !)))))) (λ r-answer-unfound zs-answer-unfound l-answer-unfound is-answer-unfound e-answer-unfound. land ! (from ! (stop !)) (init ! 14 refl (answer-typed 𝓤 H A W r-answer-unfound is-answer-unfound)) $
-        let decides = e-answer-unfound slots (asked .0 .1 .looked) (slot-missing slots (found .survey .own) refl (ap not (asked .1)) refl) in
+        let decides = e-answer-unfound slots (asked .0 .1 .looked) (slot-missing slots (seen .survey .own) refl (ap not (asked .1)) refl) in
         assigns ! (addr ! (from ! (fld ! refl (hop ! (look-in ! 24 (sub ! 0 refl (whole !))) (stop !))))) (from ! (stop !)) (init ! 8 refl (tt, tt)) $
         assigns ! (agg ! (and-then ! (load ! (from ! (stop !)) (look ! 8 refl)) (and-then ! (load ! (from ! (fld ! refl (stop !))) (look-in ! 24 (sub ! 1 refl (whole !)))) (no-more !)))) (from ! (stop !)) (init ! 6 refl (tt, (tt, (record { fits = room-slots .0 }, tt)))) $
         -- `write_found`
         move ! (4 ∷ 5 ∷ []) $
-        calls-lent ! fm Slot-t.the-row outcome-row (write-found.clauses 𝓤 H A mem run) (λ r zs. _) (named 0) (a .0 .ptr .0) (a .0 .ptr .1) slots (sliceVal (a .0 .ptr) (length slots)) (λ ν. (found, (r-answer-unfound, tt))) (λ ν. (seen-row, (answer-row, tt))) (λ ν δ. tt) known-write-found (λ ν. (is-found, (is-answer-unfound, tt))) (λ ν δ. (shown 𝓤 H A (written-within slots call datagram reply found (asked .0 .1) decides))) (λ ν δ r ws. id⊢ 𝓤 _)
+        calls-lent ! fm Slot-t.the-row outcome-row (write-found.clauses 𝓤 H A mem run) (λ r zs. _) (named 0) (a .0 .ptr .0) (a .0 .ptr .1) slots (sliceVal (a .0 .ptr) (length slots)) (λ ν. (seen, (r-answer-unfound, tt))) (λ ν. (seen-row, (answer-row, tt))) (λ ν δ. tt) known-write-found (λ ν. (is-seen, (is-answer-unfound, tt))) (λ ν δ. (shown 𝓤 H A (written-within slots call datagram reply seen (asked .0 .1) decides))) (λ ν δ r ws. id⊢ 𝓤 _)
         (λ ν δ. (and-then ! (load ! (from ! (stop !)) (look ! 6 refl)) (and-then ! (load ! (from ! (stop !)) (look ! 20 refl)) (and-then ! (load ! (from ! (stop !)) (look ! 14 refl)) (no-more !))))) (λ r-write-found zs-write-found l-write-found is-write-found e-write-found. land ! (from ! (stop !)) (init ! 26 refl (outcome-typed 𝓤 H A W r-write-found is-write-found)) $
         returns ! (look ! 26 refl) $ out ! 26 refl refl $ out ! 24 refl refl $ out ! 22 refl refl $ out ! 20 refl refl $ out ! 18 refl refl $ out ! 16 refl refl $ out ! 14 refl refl $ out ! 12 refl refl $ out ! 10 refl refl $ out ! 8 refl refl $ out ! 6 refl refl $ free0 ! $
-        keep ! (0 ∷ 1 ∷ 2 ∷ 3 ∷ 4 ∷ 5 ∷ []) $ by ! (exits r-write-found zs-write-found zs-answer-unfound (answered slots call datagram reply found (asked .0 .1) decides e-write-found) l-write-found l-answer-unfound is-write-found))))))))))))))
+        keep ! (0 ∷ 1 ∷ 2 ∷ 3 ∷ 4 ∷ 5 ∷ []) $ by ! (exits r-write-found zs-write-found zs-answer-unfound (answered slots call datagram reply seen (asked .0 .1) decides e-write-found) l-write-found l-answer-unfound is-write-found))))))))))))))
 
 pub answer-none-spec : {M : Type 1} → stated.statement M
 unfolding code.routine

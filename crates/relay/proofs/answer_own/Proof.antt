@@ -33,15 +33,15 @@ use Rattle.relay.proofs.answer_own.Code as code
 abbrev stayed : Stays (answer-own.ended .signature .params) (answer-own.ended .kept)
 stayed = (stay-slice (0 ∷ []) tt (plain (λ _. Slot-t.the-row)), (stay-none (λ _. Call-t.the-row) yes, (stay-none (λ _. Seen-t.the-row) yes, (stay-none-slice (1 ∷ []) tt (plain (λ _. u8)) yes, (stay-slice (2 ∷ []) tt (plain (λ _. u8)), tt)))))
 
-module _ {M : Type 1} (𝓤 : URA M) (H : Heap 𝓤) (A : Atoms 𝓤) (W : Given 𝓤 H A) (mem : Memory → SProp 𝓤) (run : Routine → Fun 𝓤) (κs : Lfts 3) (qs : Shares 3) (a : Args answer-own.signature κs) (is-call : Is Call-t.the-row (a .1 .0) (call-row .val (a .1 .0) ∷ [])) (is-found : Is Seen-t.the-row (a .1 .1 .0) (seen-row .val (a .1 .1 .0) ∷ [])) where
+module _ {M : Type 1} (𝓤 : URA M) (H : Heap 𝓤) (A : Atoms 𝓤) (W : Given 𝓤 H A) (mem : Memory → SProp 𝓤) (run : Routine → Fun 𝓤) (κs : Lfts 3) (qs : Shares 3) (a : Args answer-own.signature κs) (is-call : Is Call-t.the-row (a .1 .0) (call-row .val (a .1 .0) ∷ [])) (is-seen : Is Seen-t.the-row (a .1 .1 .0) (seen-row .val (a .1 .1 .0) ∷ [])) where
   abbrev slots : List Slot
   slots = a .0 .now
 
   abbrev call : Call
   call = a .1 .0
 
-  abbrev found : Seen
-  found = a .1 .1 .0
+  abbrev seen : Seen
+  seen = a .1 .1 .0
 
   abbrev datagram : List ℕ
   datagram = a .1 .1 .1 .0 .now
@@ -50,7 +50,7 @@ module _ {M : Type 1} (𝓤 : URA M) (H : Heap 𝓤) (A : Atoms 𝓤) (W : Given
   reply = a .1 .1 .1 .1 .0 .now
 
   abbrev at : Vals answer-own.signature κs
-  at = (sliceVal (a .0 .ptr) (length slots) ∷ [], (call-row .val call ∷ [], (seen-row .val found ∷ [], (sliceVal (a .1 .1 .1 .0 .ptr) (length datagram) ∷ [], (sliceVal (a .1 .1 .1 .1 .0 .ptr) (length reply) ∷ [], tt)))))
+  at = (sliceVal (a .0 .ptr) (length slots) ∷ [], (call-row .val call ∷ [], (seen-row .val seen ∷ [], (sliceVal (a .1 .1 .1 .0 .ptr) (length datagram) ∷ [], (sliceVal (a .1 .1 .1 .1 .0 .ptr) (length reply) ∷ [], tt)))))
 
   abbrev Own-slots : List Slot → Item 𝓤
   Own-slots v = ‵ (MutSlice (named 0) (κs .0) Slot-t.the-row .own (ref (a .0 .ptr .0) (a .0 .ptr .1) (a .0 .name) v) (sliceVal (a .0 .ptr) (length slots) ∷ []))
@@ -83,22 +83,22 @@ module _ {M : Type 1} (𝓤 : URA M) (H : Heap 𝓤) (A : Atoms 𝓤) (W : Given
       qed W (Own-slots z-slots ∷ t0 ∷ Own-datagram datagram ∷ t1 ∷ Own-reply z-reply ∷ t2 ∷ []) ∵
       suffices ! _ (ends-at 𝓤 H A answer-own.ended stayed (answer-own.clauses 𝓤 H A mem run) W ((κs, qs, tt, a, at), tt) (outcome-row .val r) r (z-slots, (tt, (tt, (tt, (z-reply, tt))))) (l-slots, (tt, (tt, (tt, (l-reply, tt)))))) $ says ! e $
       nothing ! $ move ! (6 ∷ 0 ∷ []) $ join ! $ move ! (4 ∷ 0 ∷ []) $ join ! $ move ! (2 ∷ 0 ∷ []) $ join ! $ frame ! $
-      nothing ! $ move ! (3 ∷ 0 ∷ []) $ fjoin ! $ move ! (2 ∷ 0 ∷ []) $ fjoin ! $ owned ! Seen-t.the-row (Is Seen-t.the-row) (seen-row .makes 𝓤 H A W) found _ is-found $ fjoin ! $ owned ! Call-t.the-row (Is Call-t.the-row) (call-row .makes 𝓤 H A W) call _ is-call $ fjoin ! $ move ! (1 ∷ 0 ∷ []) $ fjoin ! $ frame ! $ owned ! Outcome-t.the-row (Is Outcome-t.the-row) (outcome-row .makes 𝓤 H A W) r _ is $ done !
+      nothing ! $ move ! (3 ∷ 0 ∷ []) $ fjoin ! $ move ! (2 ∷ 0 ∷ []) $ fjoin ! $ owned ! Seen-t.the-row (Is Seen-t.the-row) (seen-row .makes 𝓤 H A W) seen _ is-seen $ fjoin ! $ owned ! Call-t.the-row (Is Call-t.the-row) (call-row .makes 𝓤 H A W) call _ is-call $ fjoin ! $ move ! (1 ∷ 0 ∷ []) $ fjoin ! $ frame ! $ owned ! Outcome-t.the-row (Is Outcome-t.the-row) (outcome-row .makes 𝓤 H A W) r _ is $ done !
 
   module _ (C : Calls 𝓤 H) (Λ : Loops 𝓤 H) (fm : FmC 𝓤 H (W .laws) C) (known-read-found : Triple 𝓤 (C #relay·read-found) (Of 𝓤 H A read-found.ended (read-found.clauses 𝓤 H A mem run))) (known-answer-found : Triple 𝓤 (C #relay·answer-found) (Of 𝓤 H A answer-found.ended (answer-found.clauses 𝓤 H A mem run))) where
-    walk : Room Slot-t.the-row (length slots) → Room u8 (length datagram) → Room u8 (length reply) → (Ready call datagram reply × Saw slots call datagram found) × (has (found .survey .own) ≡ true) → ent 𝓤 (onEntry 𝓤 H A answer-own.signature κs qs a at) (WpFn 𝓤 H C Λ code.function (sliceVal (a .0 .ptr) (length slots) ∷ call-row .val call ∷ seen-row .val found ∷ sliceVal (a .1 .1 .1 .0 .ptr) (length datagram) ∷ sliceVal (a .1 .1 .1 .1 .0 .ptr) (length reply) ∷ []) Post)
+    walk : Room Slot-t.the-row (length slots) → Room u8 (length datagram) → Room u8 (length reply) → (Ready call datagram reply × Saw slots call datagram seen) × (has (seen .survey .own) ≡ true) → ent 𝓤 (onEntry 𝓤 H A answer-own.signature κs qs a at) (WpFn 𝓤 H C Λ code.function (sliceVal (a .0 .ptr) (length slots) ∷ call-row .val call ∷ seen-row .val seen ∷ sliceVal (a .1 .1 .1 .0 .ptr) (length datagram) ∷ sliceVal (a .1 .1 .1 .1 .0 .ptr) (length reply) ∷ []) Post)
     walk room-slots room-datagram room-reply asked =
         qed W ((t0 ⊛ (t1 ⊛ (t2 ⊛ ‵ ftrue))) ∷ ‵ (owns (MutSlice (named 0) (κs .0) Slot-t.the-row ∷ Call-t.the-row ∷ Seen-t.the-row ∷ ShrSlice (named 1) (κs .1 .0) u8 ∷ MutSlice (named 2) (κs .1 .1 .0) u8 ∷ []) a at) ∷ []) ∵
         split ! $ move ! (1 ∷ []) $ split ! $ move ! (1 ∷ []) $ split ! $ move ! (4 ∷ []) $ fsplit ! $ move ! (1 ∷ []) $ fsplit ! $ drop ! $ fsplit ! $ drop ! $ fsplit ! $ move ! (1 ∷ []) $ fsplit ! $ move ! (1 ∷ []) $ keep ! (3 ∷ 7 ∷ 2 ∷ 6 ∷ 1 ∷ 4 ∷ []) $
-        enter ! C Λ code.function (sliceVal (a .0 .ptr) (length slots) ∷ call-row .val call ∷ seen-row .val found ∷ sliceVal (a .1 .1 .1 .0 .ptr) (length datagram) ∷ sliceVal (a .1 .1 .1 .1 .0 .ptr) (length reply) ∷ []) _ $
+        enter ! C Λ code.function (sliceVal (a .0 .ptr) (length slots) ∷ call-row .val call ∷ seen-row .val seen ∷ sliceVal (a .1 .1 .1 .0 .ptr) (length datagram) ∷ sliceVal (a .1 .1 .1 .1 .0 .ptr) (length reply) ∷ []) _ $
         alloc1 ! (λ l₀. alloc1 ! (λ l₁. alloc1 ! (λ l₂. alloc1 ! (λ l₃. alloc1 ! (λ l₄. alloc1 ! (λ l₅. alloc1 ! (λ l₆. alloc1 ! (λ l₇. alloc1 ! (λ l₈. alloc1 ! (λ l₉. alloc1 ! (λ l₁₀. alloc1 ! (λ l₁₁. alloc1 ! (λ l₁₂. alloc0 ! $ params1 ! $
-        pass1 ! (init ! 22 refl (tt, (tt, (record { fits = room-slots .0 }, tt)))) $ pass1 ! (init ! 20 refl (call-typed 𝓤 H A W call is-call)) $ pass1 ! (init ! 18 refl (seen-typed 𝓤 H A W found is-found)) $ pass1 ! (init ! 16 refl (tt, (tt, (record { fits = room-datagram .0 }, tt)))) $ pass1 ! (init ! 14 refl (tt, (tt, (record { fits = room-reply .0 }, tt)))) $ pass0 ! $
+        pass1 ! (init ! 22 refl (tt, (tt, (record { fits = room-slots .0 }, tt)))) $ pass1 ! (init ! 20 refl (call-typed 𝓤 H A W call is-call)) $ pass1 ! (init ! 18 refl (seen-typed 𝓤 H A W seen is-seen)) $ pass1 ! (init ! 16 refl (tt, (tt, (record { fits = room-datagram .0 }, tt)))) $ pass1 ! (init ! 14 refl (tt, (tt, (record { fits = room-reply .0 }, tt)))) $ pass0 ! $
         -- the references and their tokens first: from here local k stands at 30 - 2 k
         move ! (26 ∷ 27 ∷ 28 ∷ 29 ∷ 30 ∷ 31 ∷ []) $
         assigns ! (addr ! (from ! (fld ! refl (hop ! (look-in ! 28 (sub ! 0 refl (whole !))) (stop !))))) (from ! (stop !)) (init ! 16 refl (tt, tt)) $
         assigns ! (agg ! (and-then ! (load ! (from ! (stop !)) (look ! 16 refl)) (and-then ! (load ! (from ! (fld ! refl (stop !))) (look-in ! 28 (sub ! 1 refl (whole !)))) (no-more !)))) (from ! (stop !)) (init ! 14 refl (tt, (tt, (record { fits = room-slots .0 }, tt)))) $
         -- `read_found`
-        calls-shown ! fm Slot-t.the-row slot-row (read-found.clauses 𝓤 H A mem run) (λ r. _) (named 0) (a .0 .ptr .0) (a .0 .ptr .1) slots (sliceVal (a .0 .ptr) (length slots)) (λ ν. (found, tt)) (λ ν. (seen-row, tt)) (λ ν δ. tt) known-read-found (λ ν. (is-found, tt)) (λ ν δ. (shown 𝓤 H A (asked .1, seen-within slots (asked .0 .1)))) (λ ν δ r ws. id⊢ 𝓤 _)
+        calls-shown ! fm Slot-t.the-row slot-row (read-found.clauses 𝓤 H A mem run) (λ r. _) (named 0) (a .0 .ptr .0) (a .0 .ptr .1) slots (sliceVal (a .0 .ptr) (length slots)) (λ ν. (seen, tt)) (λ ν. (seen-row, tt)) (λ ν δ. tt) known-read-found (λ ν. (is-seen, tt)) (λ ν δ. (shown 𝓤 H A (asked .1, seen-within slots (asked .0 .1)))) (λ ν δ r ws. id⊢ 𝓤 _)
         (λ ν δ. (and-then ! (load ! (from ! (stop !)) (look ! 14 refl)) (and-then ! (load ! (from ! (stop !)) (look ! 24 refl)) (no-more !)))) (λ r-read-found is-read-found e-read-found. land ! (from ! (stop !)) (init ! 18 refl (slot-typed 𝓤 H A W r-read-found is-read-found)) $
         assigns ! (addr ! (from ! (fld ! refl (hop ! (look-in ! 28 (sub ! 0 refl (whole !))) (stop !))))) (from ! (stop !)) (init ! 12 refl (tt, tt)) $
         assigns ! (agg ! (and-then ! (load ! (from ! (stop !)) (look ! 12 refl)) (and-then ! (load ! (from ! (fld ! refl (stop !))) (look-in ! 28 (sub ! 1 refl (whole !)))) (no-more !)))) (from ! (stop !)) (init ! 10 refl (tt, (tt, (record { fits = room-slots .0 }, tt)))) $
@@ -108,8 +108,8 @@ module _ {M : Type 1} (𝓤 : URA M) (H : Heap 𝓤) (A : Atoms 𝓤) (W : Given
         move ! (4 ∷ 5 ∷ []) $ lend-slice ! tt u8 (named 2) (named 2) (a .1 .1 .1 .1 .0 .ptr .0) (a .1 .1 .1 .1 .0 .ptr .1) reply (sliceVal (a .1 .1 .1 .1 .0 .ptr) (length reply)) (λ ν-answer-found-reply δ-answer-found-reply.
         move ! (6 ∷ 7 ∷ []) $ copy-slice ! u8 (named 1) (a .1 .1 .1 .0 .ptr .0) (a .1 .1 .1 .0 .ptr .1) datagram (sliceVal (a .1 .1 .1 .0 .ptr) (length datagram)) $
         move ! (8 ∷ 9 ∷ []) $ lend-slice ! tt Slot-t.the-row (named 0) (named 0) (a .0 .ptr .0) (a .0 .ptr .1) slots (sliceVal (a .0 .ptr) (length slots)) (λ ν-answer-found-slots δ-answer-found-slots.
-        nothing ! $ move ! (10 ∷ 0 ∷ []) $ join ! $ move ! (6 ∷ 0 ∷ []) $ join ! $ move ! (2 ∷ 0 ∷ []) $ join ! $ nothing ! $ move ! (8 ∷ 0 ∷ []) $ fjoin ! $ move ! (5 ∷ 0 ∷ []) $ fjoin ! $ owned ! Slot-t.the-row (Is Slot-t.the-row) (slot-row .makes 𝓤 H A W) r-read-found _ is-read-found $ fjoin ! $ owned ! Seen-t.the-row (Is Seen-t.the-row) (seen-row .makes 𝓤 H A W) found _ is-found $ fjoin ! $ owned ! Call-t.the-row (Is Call-t.the-row) (call-row .makes 𝓤 H A W) call _ is-call $ fjoin ! $ move ! (2 ∷ 0 ∷ []) $ fjoin ! $ move ! (1 ∷ 0 ∷ []) $
-        calls-any ! fm answer-found.ended (answer-found.clauses 𝓤 H A mem run) (ν-answer-found-slots ∷ [], (κs .1 .0, (ν-answer-found-reply ∷ [], tt))) (fullShare, (qs .1 .0, (fullShare, tt))) tt outcome-row (ref (a .0 .ptr .0) (a .0 .ptr .1) δ-answer-found-slots slots, (call, (found, (r-read-found, (ref (a .1 .1 .1 .0 .ptr .0) (a .1 .1 .1 .0 .ptr .1) (a .1 .1 .1 .0 .name) datagram, (ref (a .1 .1 .1 .1 .0 .ptr .0) (a .1 .1 .1 .1 .0 .ptr .1) δ-answer-found-reply reply, tt)))))) (sliceVal (a .0 .ptr) (length slots) ∷ [], (call-row .val call ∷ [], (seen-row .val found ∷ [], (slot-row .val r-read-found ∷ [], (sliceVal (a .1 .1 .1 .0 .ptr) (length datagram) ∷ [], (sliceVal (a .1 .1 .1 .1 .0 .ptr) (length reply) ∷ [], tt)))))) tt (λ r ws. _) known-answer-found (shown 𝓤 H A (asked .0, e-read-found)) (λ r ws. id⊢ 𝓤 _)
+        nothing ! $ move ! (10 ∷ 0 ∷ []) $ join ! $ move ! (6 ∷ 0 ∷ []) $ join ! $ move ! (2 ∷ 0 ∷ []) $ join ! $ nothing ! $ move ! (8 ∷ 0 ∷ []) $ fjoin ! $ move ! (5 ∷ 0 ∷ []) $ fjoin ! $ owned ! Slot-t.the-row (Is Slot-t.the-row) (slot-row .makes 𝓤 H A W) r-read-found _ is-read-found $ fjoin ! $ owned ! Seen-t.the-row (Is Seen-t.the-row) (seen-row .makes 𝓤 H A W) seen _ is-seen $ fjoin ! $ owned ! Call-t.the-row (Is Call-t.the-row) (call-row .makes 𝓤 H A W) call _ is-call $ fjoin ! $ move ! (2 ∷ 0 ∷ []) $ fjoin ! $ move ! (1 ∷ 0 ∷ []) $
+        calls-any ! fm answer-found.ended (answer-found.clauses 𝓤 H A mem run) (ν-answer-found-slots ∷ [], (κs .1 .0, (ν-answer-found-reply ∷ [], tt))) (fullShare, (qs .1 .0, (fullShare, tt))) tt outcome-row (ref (a .0 .ptr .0) (a .0 .ptr .1) δ-answer-found-slots slots, (call, (seen, (r-read-found, (ref (a .1 .1 .1 .0 .ptr .0) (a .1 .1 .1 .0 .ptr .1) (a .1 .1 .1 .0 .name) datagram, (ref (a .1 .1 .1 .1 .0 .ptr .0) (a .1 .1 .1 .1 .0 .ptr .1) δ-answer-found-reply reply, tt)))))) (sliceVal (a .0 .ptr) (length slots) ∷ [], (call-row .val call ∷ [], (seen-row .val seen ∷ [], (slot-row .val r-read-found ∷ [], (sliceVal (a .1 .1 .1 .0 .ptr) (length datagram) ∷ [], (sliceVal (a .1 .1 .1 .1 .0 .ptr) (length reply) ∷ [], tt)))))) tt (λ r ws. _) known-answer-found (shown 𝓤 H A (asked .0, e-read-found)) (λ r ws. id⊢ 𝓤 _)
         (and-then ! (load ! (from ! (stop !)) (look ! 11 refl)) (and-then ! (load ! (from ! (stop !)) (look ! 27 refl)) (and-then ! (load ! (from ! (stop !)) (look ! 25 refl)) (and-then ! (load ! (from ! (stop !)) (look ! 19 refl)) (and-then ! (load ! (from ! (stop !)) (look ! 23 refl)) (and-then ! (load ! (from ! (stop !)) (look ! 7 refl)) (no-more !))))))) (λ r-answer-found ws-answer-found is-answer-found e-answer-found.
         split ! $ move ! (1 ∷ []) $ split ! $ move ! (1 ∷ []) $ split ! $ move ! (1 ∷ []) $ drop ! $ move ! (3 ∷ []) $ fsplit ! $ fsplit ! $ move ! (1 ∷ []) $ feqL ! (λ l-answer-found-slots. move ! (0 ∷ 4 ∷ 5 ∷ 6 ∷ []) $ back-slice ! tt Slot-t.the-row (named 0) (a .0 .ptr .0) (a .0 .ptr .1) slots (ws-answer-found .0) (sliceVal (a .0 .ptr) (length slots)) l-answer-found-slots refl room-slots $ move ! (2 ∷ []) $ fsplit ! $ drop ! $ fsplit ! $ drop ! $ fsplit ! $ drop ! $ fsplit ! $ drop ! $ move ! (4 ∷ 5 ∷ 6 ∷ []) $ move ! (1 ∷ 0 ∷ 2 ∷ []) $ move ! (2 ∷ []) $ drop ! $ move ! (2 ∷ []) $ fsplit ! $ fsplit ! $ move ! (1 ∷ []) $ feqL ! (λ l-answer-found-reply. move ! (0 ∷ 6 ∷ 7 ∷ 8 ∷ []) $ back-slice ! tt u8 (named 2) (a .1 .1 .1 .1 .0 .ptr .0) (a .1 .1 .1 .1 .0 .ptr .1) reply (ws-answer-found .1 .1 .1 .1 .1 .0) (sliceVal (a .1 .1 .1 .1 .0 .ptr) (length reply)) l-answer-found-reply refl room-reply $ move ! (2 ∷ []) $ drop ! $
         land ! (from ! (stop !)) (init ! 30 refl (outcome-typed 𝓤 H A W r-answer-found is-answer-found)) $

@@ -36,15 +36,15 @@ use Rattle.relay.proofs.answer_request.Code as code
 abbrev stayed : Stays (answer-request.ended .signature .params) (answer-request.ended .kept)
 stayed = (stay-slice (0 ∷ []) tt (plain (λ _. Slot-t.the-row)), (stay-none (λ _. Call-t.the-row) yes, (stay-none (λ _. Seen-t.the-row) yes, (stay-none (λ _. Slot-t.the-row) yes, (stay-none-slice (1 ∷ []) tt (plain (λ _. u8)) yes, (stay-slice (2 ∷ []) tt (plain (λ _. u8)), tt))))))
 
-module _ {M : Type 1} (𝓤 : URA M) (H : Heap 𝓤) (A : Atoms 𝓤) (W : Given 𝓤 H A) (mem : Memory → SProp 𝓤) (run : Routine → Fun 𝓤) (κs : Lfts 3) (qs : Shares 3) (a : Args answer-request.signature κs) (is-call : Is Call-t.the-row (a .1 .0) (call-row .val (a .1 .0) ∷ [])) (is-found : Is Seen-t.the-row (a .1 .1 .0) (seen-row .val (a .1 .1 .0) ∷ [])) (is-own : Is Slot-t.the-row (a .1 .1 .1 .0) (slot-row .val (a .1 .1 .1 .0) ∷ [])) where
+module _ {M : Type 1} (𝓤 : URA M) (H : Heap 𝓤) (A : Atoms 𝓤) (W : Given 𝓤 H A) (mem : Memory → SProp 𝓤) (run : Routine → Fun 𝓤) (κs : Lfts 3) (qs : Shares 3) (a : Args answer-request.signature κs) (is-call : Is Call-t.the-row (a .1 .0) (call-row .val (a .1 .0) ∷ [])) (is-seen : Is Seen-t.the-row (a .1 .1 .0) (seen-row .val (a .1 .1 .0) ∷ [])) (is-own : Is Slot-t.the-row (a .1 .1 .1 .0) (slot-row .val (a .1 .1 .1 .0) ∷ [])) where
   abbrev slots : List Slot
   slots = a .0 .now
 
   abbrev call : Call
   call = a .1 .0
 
-  abbrev found : Seen
-  found = a .1 .1 .0
+  abbrev seen : Seen
+  seen = a .1 .1 .0
 
   abbrev own : Slot
   own = a .1 .1 .1 .0
@@ -56,7 +56,7 @@ module _ {M : Type 1} (𝓤 : URA M) (H : Heap 𝓤) (A : Atoms 𝓤) (W : Given
   reply = a .1 .1 .1 .1 .1 .0 .now
 
   abbrev at : Vals answer-request.signature κs
-  at = (sliceVal (a .0 .ptr) (length slots) ∷ [], (call-row .val call ∷ [], (seen-row .val found ∷ [], (slot-row .val own ∷ [], (sliceVal (a .1 .1 .1 .1 .0 .ptr) (length datagram) ∷ [], (sliceVal (a .1 .1 .1 .1 .1 .0 .ptr) (length reply) ∷ [], tt))))))
+  at = (sliceVal (a .0 .ptr) (length slots) ∷ [], (call-row .val call ∷ [], (seen-row .val seen ∷ [], (slot-row .val own ∷ [], (sliceVal (a .1 .1 .1 .1 .0 .ptr) (length datagram) ∷ [], (sliceVal (a .1 .1 .1 .1 .1 .0 .ptr) (length reply) ∷ [], tt))))))
 
   abbrev Own-slots : List Slot → Item 𝓤
   Own-slots v = ‵ (MutSlice (named 0) (κs .0) Slot-t.the-row .own (ref (a .0 .ptr .0) (a .0 .ptr .1) (a .0 .name) v) (sliceVal (a .0 .ptr) (length slots) ∷ []))
@@ -89,16 +89,16 @@ module _ {M : Type 1} (𝓤 : URA M) (H : Heap 𝓤) (A : Atoms 𝓤) (W : Given
       qed W (Own-slots z-slots ∷ t0 ∷ Own-datagram datagram ∷ t1 ∷ Own-reply z-reply ∷ t2 ∷ []) ∵
       suffices ! _ (ends-at 𝓤 H A answer-request.ended stayed (answer-request.clauses 𝓤 H A mem run) W ((κs, qs, tt, a, at), tt) (outcome-row .val r) r (z-slots, (tt, (tt, (tt, (tt, (z-reply, tt)))))) (l-slots, (tt, (tt, (tt, (tt, (l-reply, tt))))))) $ says ! e $
       nothing ! $ move ! (6 ∷ 0 ∷ []) $ join ! $ move ! (4 ∷ 0 ∷ []) $ join ! $ move ! (2 ∷ 0 ∷ []) $ join ! $ frame ! $
-      nothing ! $ move ! (3 ∷ 0 ∷ []) $ fjoin ! $ move ! (2 ∷ 0 ∷ []) $ fjoin ! $ owned ! Slot-t.the-row (Is Slot-t.the-row) (slot-row .makes 𝓤 H A W) own _ is-own $ fjoin ! $ owned ! Seen-t.the-row (Is Seen-t.the-row) (seen-row .makes 𝓤 H A W) found _ is-found $ fjoin ! $ owned ! Call-t.the-row (Is Call-t.the-row) (call-row .makes 𝓤 H A W) call _ is-call $ fjoin ! $ move ! (1 ∷ 0 ∷ []) $ fjoin ! $ frame ! $ owned ! Outcome-t.the-row (Is Outcome-t.the-row) (outcome-row .makes 𝓤 H A W) r _ is $ done !
+      nothing ! $ move ! (3 ∷ 0 ∷ []) $ fjoin ! $ move ! (2 ∷ 0 ∷ []) $ fjoin ! $ owned ! Slot-t.the-row (Is Slot-t.the-row) (slot-row .makes 𝓤 H A W) own _ is-own $ fjoin ! $ owned ! Seen-t.the-row (Is Seen-t.the-row) (seen-row .makes 𝓤 H A W) seen _ is-seen $ fjoin ! $ owned ! Call-t.the-row (Is Call-t.the-row) (call-row .makes 𝓤 H A W) call _ is-call $ fjoin ! $ move ! (1 ∷ 0 ∷ []) $ fjoin ! $ frame ! $ owned ! Outcome-t.the-row (Is Outcome-t.the-row) (outcome-row .makes 𝓤 H A W) r _ is $ done !
 
   module _ (C : Calls 𝓤 H) (Λ : Loops 𝓤 H) (fm : FmC 𝓤 H (W .laws) C) (known-answer-call : Triple 𝓤 (C #decisions·answer-call) (Of 𝓤 H A answer-call.ended (answer-call.clauses 𝓤 H A mem run))) (known-write-found : Triple 𝓤 (C #relay·write-found) (Of 𝓤 H A write-found.ended (write-found.clauses 𝓤 H A mem run))) where
-    walk : Room Slot-t.the-row (length slots) → Room u8 (length datagram) → Room u8 (length reply) → (Ready call datagram reply × Saw slots call datagram found) × ((own ≡ atOr freshSlot (found .survey .own) slots) × (isData (found .asked) ≡ false)) → ent 𝓤 (onEntry 𝓤 H A answer-request.signature κs qs a at) (WpFn 𝓤 H C Λ code.function (sliceVal (a .0 .ptr) (length slots) ∷ call-row .val call ∷ seen-row .val found ∷ slot-row .val own ∷ sliceVal (a .1 .1 .1 .1 .0 .ptr) (length datagram) ∷ sliceVal (a .1 .1 .1 .1 .1 .0 .ptr) (length reply) ∷ []) Post)
+    walk : Room Slot-t.the-row (length slots) → Room u8 (length datagram) → Room u8 (length reply) → (Ready call datagram reply × Saw slots call datagram seen) × ((own ≡ atOr freshSlot (seen .survey .own) slots) × (isData (seen .asked) ≡ false)) → ent 𝓤 (onEntry 𝓤 H A answer-request.signature κs qs a at) (WpFn 𝓤 H C Λ code.function (sliceVal (a .0 .ptr) (length slots) ∷ call-row .val call ∷ seen-row .val seen ∷ slot-row .val own ∷ sliceVal (a .1 .1 .1 .1 .0 .ptr) (length datagram) ∷ sliceVal (a .1 .1 .1 .1 .1 .0 .ptr) (length reply) ∷ []) Post)
     walk room-slots room-datagram room-reply asked =
         qed W ((t0 ⊛ (t1 ⊛ (t2 ⊛ ‵ ftrue))) ∷ ‵ (owns (MutSlice (named 0) (κs .0) Slot-t.the-row ∷ Call-t.the-row ∷ Seen-t.the-row ∷ Slot-t.the-row ∷ ShrSlice (named 1) (κs .1 .0) u8 ∷ MutSlice (named 2) (κs .1 .1 .0) u8 ∷ []) a at) ∷ []) ∵
         split ! $ move ! (1 ∷ []) $ split ! $ move ! (1 ∷ []) $ split ! $ move ! (4 ∷ []) $ fsplit ! $ move ! (1 ∷ []) $ fsplit ! $ drop ! $ fsplit ! $ drop ! $ fsplit ! $ drop ! $ fsplit ! $ move ! (1 ∷ []) $ fsplit ! $ move ! (1 ∷ []) $ keep ! (3 ∷ 7 ∷ 2 ∷ 6 ∷ 1 ∷ 4 ∷ []) $
-        enter ! C Λ code.function (sliceVal (a .0 .ptr) (length slots) ∷ call-row .val call ∷ seen-row .val found ∷ slot-row .val own ∷ sliceVal (a .1 .1 .1 .1 .0 .ptr) (length datagram) ∷ sliceVal (a .1 .1 .1 .1 .1 .0 .ptr) (length reply) ∷ []) _ $
+        enter ! C Λ code.function (sliceVal (a .0 .ptr) (length slots) ∷ call-row .val call ∷ seen-row .val seen ∷ slot-row .val own ∷ sliceVal (a .1 .1 .1 .1 .0 .ptr) (length datagram) ∷ sliceVal (a .1 .1 .1 .1 .1 .0 .ptr) (length reply) ∷ []) _ $
         alloc1 ! (λ l₀. alloc1 ! (λ l₁. alloc1 ! (λ l₂. alloc1 ! (λ l₃. alloc1 ! (λ l₄. alloc1 ! (λ l₅. alloc1 ! (λ l₆. alloc1 ! (λ l₇. alloc1 ! (λ l₈. alloc1 ! (λ l₉. alloc1 ! (λ l₁₀. alloc1 ! (λ l₁₁. alloc0 ! $ params1 ! $
-        pass1 ! (init ! 20 refl (tt, (tt, (record { fits = room-slots .0 }, tt)))) $ pass1 ! (init ! 18 refl (call-typed 𝓤 H A W call is-call)) $ pass1 ! (init ! 16 refl (seen-typed 𝓤 H A W found is-found)) $ pass1 ! (init ! 14 refl (slot-typed 𝓤 H A W own is-own)) $ pass1 ! (init ! 12 refl (tt, (tt, (record { fits = room-datagram .0 }, tt)))) $ pass1 ! (init ! 10 refl (tt, (tt, (record { fits = room-reply .0 }, tt)))) $ pass0 ! $
+        pass1 ! (init ! 20 refl (tt, (tt, (record { fits = room-slots .0 }, tt)))) $ pass1 ! (init ! 18 refl (call-typed 𝓤 H A W call is-call)) $ pass1 ! (init ! 16 refl (seen-typed 𝓤 H A W seen is-seen)) $ pass1 ! (init ! 14 refl (slot-typed 𝓤 H A W own is-own)) $ pass1 ! (init ! 12 refl (tt, (tt, (record { fits = room-datagram .0 }, tt)))) $ pass1 ! (init ! 10 refl (tt, (tt, (record { fits = room-reply .0 }, tt)))) $ pass0 ! $
         -- the references and their tokens first: from here local k stands at 28 - 2 k
         move ! (24 ∷ 25 ∷ 26 ∷ 27 ∷ 28 ∷ 29 ∷ []) $
         assigns ! (addr ! (from ! (fld ! refl (hop ! (look-in ! 16 (sub ! 0 refl (whole !))) (stop !))))) (from ! (stop !)) (init ! 12 refl (tt, tt)) $
@@ -106,17 +106,17 @@ module _ {M : Type 1} (𝓤 : URA M) (H : Heap 𝓤) (A : Atoms 𝓤) (W : Given
         -- `answer_call`
         move ! (4 ∷ 5 ∷ []) $
         move ! (4 ∷ 5 ∷ []) $
-        calls-both ! fm u8 u8 answer-row (answer-call.clauses 𝓤 H A mem run) (λ r zs. Answering call (found .asked) (λ (l : List Slot). decided call datagram l .change) (found .survey) own reply zs r) (named 1) (a .1 .1 .1 .1 .0 .ptr .0) (a .1 .1 .1 .1 .0 .ptr .1) datagram (sliceVal (a .1 .1 .1 .1 .0 .ptr) (length datagram)) (named 2) (a .1 .1 .1 .1 .1 .0 .ptr .0) (a .1 .1 .1 .1 .1 .0 .ptr .1) reply (sliceVal (a .1 .1 .1 .1 .1 .0 .ptr) (length reply)) (λ ν. (call, (found, (own, tt)))) (λ ν. (call-row, (seen-row, (slot-row, tt)))) (λ ν δ. tt) known-answer-call (λ ν. (is-call, (is-found, (is-own, tt)))) (λ ν δ. (shown 𝓤 H A ((asked .0 .0, asked .0 .1 .asked), λ y. absurd (false≢true (sym (asked .1 .1) ∙ y))))) (λ ν δ r ws. id⊢ 𝓤 _)
+        calls-both ! fm u8 u8 answer-row (answer-call.clauses 𝓤 H A mem run) (λ r zs. Answering call (seen .asked) (λ (l : List Slot). decided call datagram l .change) (seen .survey) own reply zs r) (named 1) (a .1 .1 .1 .1 .0 .ptr .0) (a .1 .1 .1 .1 .0 .ptr .1) datagram (sliceVal (a .1 .1 .1 .1 .0 .ptr) (length datagram)) (named 2) (a .1 .1 .1 .1 .1 .0 .ptr .0) (a .1 .1 .1 .1 .1 .0 .ptr .1) reply (sliceVal (a .1 .1 .1 .1 .1 .0 .ptr) (length reply)) (λ ν. (call, (seen, (own, tt)))) (λ ν. (call-row, (seen-row, (slot-row, tt)))) (λ ν δ. tt) known-answer-call (λ ν. (is-call, (is-seen, (is-own, tt)))) (λ ν δ. (shown 𝓤 H A ((asked .0 .0, asked .0 .1 .asked), λ y. absurd (false≢true (sym (asked .1 .1) ∙ y))))) (λ ν δ r ws. id⊢ 𝓤 _)
         (λ ν δ. (and-then ! (load ! (from ! (stop !)) (look ! 18 refl)) (and-then ! (load ! (from ! (stop !)) (look ! 10 refl)) (and-then ! (load ! (from ! (stop !)) (look ! 24 refl)) (and-then ! (load ! (from ! (stop !)) (look ! 22 refl)) (and-then ! (load ! (from ! (stop !)) (look ! 20 refl)) (no-more !))))))) (λ r-answer-call zs-answer-call l-answer-call is-answer-call e-answer-call. land ! (from ! (stop !)) (init ! 14 refl (answer-typed 𝓤 H A W r-answer-call is-answer-call)) $
         let decides = e-answer-call slots (asked .0 .1 .looked) (asked .1 .0) in
         assigns ! (addr ! (from ! (fld ! refl (hop ! (look-in ! 26 (sub ! 0 refl (whole !))) (stop !))))) (from ! (stop !)) (init ! 8 refl (tt, tt)) $
         assigns ! (agg ! (and-then ! (load ! (from ! (stop !)) (look ! 8 refl)) (and-then ! (load ! (from ! (fld ! refl (stop !))) (look-in ! 26 (sub ! 1 refl (whole !)))) (no-more !)))) (from ! (stop !)) (init ! 6 refl (tt, (tt, (record { fits = room-slots .0 }, tt)))) $
         -- `write_found`
         move ! (4 ∷ 5 ∷ []) $
-        calls-lent ! fm Slot-t.the-row outcome-row (write-found.clauses 𝓤 H A mem run) (λ r zs. _) (named 0) (a .0 .ptr .0) (a .0 .ptr .1) slots (sliceVal (a .0 .ptr) (length slots)) (λ ν. (found, (r-answer-call, tt))) (λ ν. (seen-row, (answer-row, tt))) (λ ν δ. tt) known-write-found (λ ν. (is-found, (is-answer-call, tt))) (λ ν δ. (shown 𝓤 H A (written-within slots call datagram reply found (asked .0 .1) decides))) (λ ν δ r ws. id⊢ 𝓤 _)
+        calls-lent ! fm Slot-t.the-row outcome-row (write-found.clauses 𝓤 H A mem run) (λ r zs. _) (named 0) (a .0 .ptr .0) (a .0 .ptr .1) slots (sliceVal (a .0 .ptr) (length slots)) (λ ν. (seen, (r-answer-call, tt))) (λ ν. (seen-row, (answer-row, tt))) (λ ν δ. tt) known-write-found (λ ν. (is-seen, (is-answer-call, tt))) (λ ν δ. (shown 𝓤 H A (written-within slots call datagram reply seen (asked .0 .1) decides))) (λ ν δ r ws. id⊢ 𝓤 _)
         (λ ν δ. (and-then ! (load ! (from ! (stop !)) (look ! 6 refl)) (and-then ! (load ! (from ! (stop !)) (look ! 22 refl)) (and-then ! (load ! (from ! (stop !)) (look ! 14 refl)) (no-more !))))) (λ r-write-found zs-write-found l-write-found is-write-found e-write-found. land ! (from ! (stop !)) (init ! 28 refl (outcome-typed 𝓤 H A W r-write-found is-write-found)) $
         returns ! (look ! 28 refl) $ out ! 28 refl refl $ out ! 26 refl refl $ out ! 24 refl refl $ out ! 22 refl refl $ out ! 20 refl refl $ out ! 18 refl refl $ out ! 16 refl refl $ out ! 14 refl refl $ out ! 12 refl refl $ out ! 10 refl refl $ out ! 8 refl refl $ out ! 6 refl refl $ free0 ! $
-        keep ! (0 ∷ 1 ∷ 2 ∷ 3 ∷ 4 ∷ 5 ∷ []) $ by ! (exits r-write-found zs-write-found zs-answer-call (answered slots call datagram reply found (asked .0 .1) decides e-write-found) l-write-found l-answer-call is-write-found)))))))))))))))
+        keep ! (0 ∷ 1 ∷ 2 ∷ 3 ∷ 4 ∷ 5 ∷ []) $ by ! (exits r-write-found zs-write-found zs-answer-call (answered slots call datagram reply seen (asked .0 .1) decides e-write-found) l-write-found l-answer-call is-write-found)))))))))))))))
 
 pub answer-request-spec : {M : Type 1} → stated.statement M
 unfolding code.routine

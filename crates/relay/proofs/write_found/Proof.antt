@@ -44,18 +44,18 @@ use Rattle.relay.proofs.write_found.Code as code
 abbrev stayed : Stays (write-found.ended .signature .params) (write-found.ended .kept)
 stayed = (stay-slice (0 ∷ []) tt (plain (λ _. Slot-t.the-row)), (stay-none (λ _. Seen-t.the-row) yes, (stay-none (λ _. Answer-t.the-row) yes, tt)))
 
-module _ {M : Type 1} (𝓤 : URA M) (H : Heap 𝓤) (A : Atoms 𝓤) (W : Given 𝓤 H A) (mem : Memory → SProp 𝓤) (run : Routine → Fun 𝓤) (κs : Lfts 1) (qs : Shares 1) (a : Args write-found.signature κs) (is-found : Is Seen-t.the-row (a .1 .0) (seen-row .val (a .1 .0) ∷ [])) (is-answer : Is Answer-t.the-row (a .1 .1 .0) (answer-row .val (a .1 .1 .0) ∷ [])) where
+module _ {M : Type 1} (𝓤 : URA M) (H : Heap 𝓤) (A : Atoms 𝓤) (W : Given 𝓤 H A) (mem : Memory → SProp 𝓤) (run : Routine → Fun 𝓤) (κs : Lfts 1) (qs : Shares 1) (a : Args write-found.signature κs) (is-seen : Is Seen-t.the-row (a .1 .0) (seen-row .val (a .1 .0) ∷ [])) (is-answer : Is Answer-t.the-row (a .1 .1 .0) (answer-row .val (a .1 .1 .0) ∷ [])) where
   abbrev slots : List Slot
   slots = a .0 .now
 
-  abbrev found : Seen
-  found = a .1 .0
+  abbrev seen : Seen
+  seen = a .1 .0
 
   abbrev answer : Answer
   answer = a .1 .1 .0
 
   abbrev at : Vals write-found.signature κs
-  at = (sliceVal (a .0 .ptr) (length slots) ∷ [], (seen-row .val found ∷ [], (answer-row .val answer ∷ [], tt)))
+  at = (sliceVal (a .0 .ptr) (length slots) ∷ [], (seen-row .val seen ∷ [], (answer-row .val answer ∷ [], tt)))
 
   abbrev Own-slots : List Slot → Item 𝓤
   Own-slots v = ‵ (MutSlice (named 0) (κs .0) Slot-t.the-row .own (ref (a .0 .ptr .0) (a .0 .ptr .1) (a .0 .name) v) (sliceVal (a .0 .ptr) (length slots) ∷ []))
@@ -68,7 +68,7 @@ module _ {M : Type 1} (𝓤 : URA M) (H : Heap 𝓤) (A : Atoms 𝓤) (W : Given
 
   -- what the `ensures` says of the result and of the last values
   abbrev Said : Outcome → List Slot → Type 0
-  Said r z-slots = WroteBack found answer r slots z-slots
+  Said r z-slots = WroteBack seen answer r slots z-slots
 
   exits : (r : Outcome) (z-slots : List Slot) → Said r z-slots → length z-slots ≡ length slots → Is Outcome-t.the-row r (outcome-row .val r ∷ [])
       → ent 𝓤 (⋆ 𝓤 H A (Own-slots z-slots ∷ t0 ∷ [])) (Post (outcome-row .val r))
@@ -76,16 +76,16 @@ module _ {M : Type 1} (𝓤 : URA M) (H : Heap 𝓤) (A : Atoms 𝓤) (W : Given
       qed W (Own-slots z-slots ∷ t0 ∷ []) ∵
       suffices ! _ (ends-at 𝓤 H A write-found.ended stayed (write-found.clauses 𝓤 H A mem run) W ((κs, qs, tt, a, at), tt) (outcome-row .val r) r (z-slots, (tt, (tt, tt))) (l-slots, (tt, (tt, tt)))) $ says ! e $
       nothing ! $ move ! (2 ∷ 0 ∷ []) $ join ! $ frame ! $
-      nothing ! $ owned ! Answer-t.the-row (Is Answer-t.the-row) (answer-row .makes 𝓤 H A W) answer _ is-answer $ fjoin ! $ owned ! Seen-t.the-row (Is Seen-t.the-row) (seen-row .makes 𝓤 H A W) found _ is-found $ fjoin ! $ move ! (1 ∷ 0 ∷ []) $ fjoin ! $ frame ! $ owned ! Outcome-t.the-row (Is Outcome-t.the-row) (outcome-row .makes 𝓤 H A W) r _ is $ done !
+      nothing ! $ owned ! Answer-t.the-row (Is Answer-t.the-row) (answer-row .makes 𝓤 H A W) answer _ is-answer $ fjoin ! $ owned ! Seen-t.the-row (Is Seen-t.the-row) (seen-row .makes 𝓤 H A W) seen _ is-seen $ fjoin ! $ move ! (1 ∷ 0 ∷ []) $ fjoin ! $ frame ! $ owned ! Outcome-t.the-row (Is Outcome-t.the-row) (outcome-row .makes 𝓤 H A W) r _ is $ done !
 
   module _ (C : Calls 𝓤 H) (Λ : Loops 𝓤 H) (fm : FmC 𝓤 H (W .laws) C) (known-writes-none : Triple 𝓤 (C #decisions·writes-none) (Of 𝓤 H A writes-none.ended (writes-none.clauses 𝓤 H A mem run))) (known-outcome-of : Triple 𝓤 (C #decisions·outcome-of) (Of 𝓤 H A outcome-of.ended (outcome-of.clauses 𝓤 H A mem run))) (known-place-for : Triple 𝓤 (C #decisions·place-for) (Of 𝓤 H A place-for.ended (place-for.clauses 𝓤 H A mem run))) (known-slot-of : Triple 𝓤 (C #decisions·slot-of) (Of 𝓤 H A slot-of.ended (slot-of.clauses 𝓤 H A mem run))) (known-put-slot : Triple 𝓤 (C #table·put-slot) (Of 𝓤 H A put-slot.ended (put-slot.clauses 𝓤 H A mem run))) where
-    walk : Room Slot-t.the-row (length slots) → (answer .writes ≡ true → placeIn found < length slots) → ent 𝓤 (onEntry 𝓤 H A write-found.signature κs qs a at) (WpFn 𝓤 H C Λ code.function (sliceVal (a .0 .ptr) (length slots) ∷ seen-row .val found ∷ answer-row .val answer ∷ []) Post)
+    walk : Room Slot-t.the-row (length slots) → (answer .writes ≡ true → placeIn seen < length slots) → ent 𝓤 (onEntry 𝓤 H A write-found.signature κs qs a at) (WpFn 𝓤 H C Λ code.function (sliceVal (a .0 .ptr) (length slots) ∷ seen-row .val seen ∷ answer-row .val answer ∷ []) Post)
     walk room-slots asked =
         qed W ((t0 ⊛ ‵ ftrue) ∷ ‵ (owns (MutSlice (named 0) (κs .0) Slot-t.the-row ∷ Seen-t.the-row ∷ Answer-t.the-row ∷ []) a at) ∷ []) ∵
         split ! $ move ! (2 ∷ []) $ fsplit ! $ move ! (1 ∷ []) $ fsplit ! $ drop ! $ fsplit ! $ drop ! $ keep ! (1 ∷ 2 ∷ []) $
-        enter ! C Λ code.function (sliceVal (a .0 .ptr) (length slots) ∷ seen-row .val found ∷ answer-row .val answer ∷ []) _ $
+        enter ! C Λ code.function (sliceVal (a .0 .ptr) (length slots) ∷ seen-row .val seen ∷ answer-row .val answer ∷ []) _ $
         alloc1 ! (λ l₀. alloc1 ! (λ l₁. alloc1 ! (λ l₂. alloc1 ! (λ l₃. alloc1 ! (λ l₄. alloc1 ! (λ l₅. alloc1 ! (λ l₆. alloc1 ! (λ l₇. alloc1 ! (λ l₈. alloc1 ! (λ l₉. alloc0 ! $ params1 ! $
-        pass1 ! (init ! 16 refl (tt, (tt, (record { fits = room-slots .0 }, tt)))) $ pass1 ! (init ! 14 refl (seen-typed 𝓤 H A W found is-found)) $ pass1 ! (init ! 12 refl (answer-typed 𝓤 H A W answer is-answer)) $ pass0 ! $
+        pass1 ! (init ! 16 refl (tt, (tt, (record { fits = room-slots .0 }, tt)))) $ pass1 ! (init ! 14 refl (seen-typed 𝓤 H A W seen is-seen)) $ pass1 ! (init ! 12 refl (answer-typed 𝓤 H A W answer is-answer)) $ pass0 ! $
         -- the references and their tokens first: from here local k stands at 20 - 2 k
         move ! (20 ∷ 21 ∷ []) $
         -- `writes_none`
@@ -97,13 +97,13 @@ module _ {M : Type 1} (𝓤 : URA M) (H : Heap 𝓤) (A : Atoms 𝓤) (W : Given
         calls-value ! fm outcome-row (outcome-of.clauses 𝓤 H A mem run) (λ r. _) (answer-row, tt) (answer, tt) tt known-outcome-of (is-answer, tt) (asks-none 𝓤 H A) (λ r ws. id⊢ 𝓤 _)
         (and-then ! (load ! (from ! (stop !)) (look ! 15 refl)) (no-more !)) (λ r-outcome-of is-outcome-of e-outcome-of. land ! (from ! (stop !)) (init ! 20 refl (outcome-typed 𝓤 H A W r-outcome-of is-outcome-of)) $
         returns-within ! Post refl (look ! 20 refl) $ out ! 20 refl refl $ out ! 18 refl refl $ out ! 16 refl refl $ out ! 14 refl refl $ out ! 12 refl refl $ out-room ! 10 refl refl $ out-room ! 8 refl refl $ out-room ! 6 refl refl $ out-room ! 4 refl refl $ out-room ! 2 refl refl $ free0 ! $
-        keep ! (0 ∷ 1 ∷ []) $ by ! (exits r-outcome-of slots (none-back slots found answer e-writes-none e-outcome-of (holds-true _ held)) refl is-outcome-of)))
+        keep ! (0 ∷ 1 ∷ []) $ by ! (exits r-outcome-of slots (none-back slots seen answer e-writes-none e-outcome-of (holds-true _ held)) refl is-outcome-of)))
         (λ failed.
         let written = not-false (answer .writes) (sym e-writes-none ∙ fails-false _ failed) in
         assigns ! (addr ! (from ! (fld ! refl (hop ! (look-in ! 18 (sub ! 0 refl (whole !))) (stop !))))) (from ! (stop !)) (init ! 8 refl (tt, tt)) $
         assigns ! (agg ! (and-then ! (load ! (from ! (stop !)) (look ! 8 refl)) (and-then ! (load ! (from ! (fld ! refl (stop !))) (look-in ! 18 (sub ! 1 refl (whole !)))) (no-more !)))) (from ! (stop !)) (init ! 6 refl (tt, (tt, (record { fits = room-slots .0 }, tt)))) $
         -- `place_for`
-        calls-value ! fm (uint-row w64) (place-for.clauses 𝓤 H A mem run) (λ r. _) (seen-row, tt) (found, tt) tt known-place-for (is-found, tt) (asks-none 𝓤 H A) (λ r ws. id⊢ 𝓤 _)
+        calls-value ! fm (uint-row w64) (place-for.clauses 𝓤 H A mem run) (λ r. _) (seen-row, tt) (seen, tt) tt known-place-for (is-seen, tt) (asks-none 𝓤 H A) (λ r ws. id⊢ 𝓤 _)
         (and-then ! (load ! (from ! (stop !)) (look ! 17 refl)) (no-more !)) (λ r-place-for is-place-for e-place-for. land ! (from ! (stop !)) (init ! 4 refl (tt, record { fits = is-place-for .1 })) $
         -- `slot_of`
         calls-value ! fm slot-row (slot-of.clauses 𝓤 H A mem run) (λ r. _) (answer-row, tt) (answer, tt) tt known-slot-of (is-answer, tt) (asks-none 𝓤 H A) (λ r ws. id⊢ 𝓤 _)
@@ -115,7 +115,7 @@ module _ {M : Type 1} (𝓤 : URA M) (H : Heap 𝓤) (A : Atoms 𝓤) (W : Given
         calls-value ! fm outcome-row (outcome-of.clauses 𝓤 H A mem run) (λ r. _) (answer-row, tt) (answer, tt) tt known-outcome-of (is-answer, tt) (asks-none 𝓤 H A) (λ r ws. id⊢ 𝓤 _)
         (and-then ! (load ! (from ! (stop !)) (look ! 15 refl)) (no-more !)) (λ r-outcome-of-2 is-outcome-of-2 e-outcome-of-2. land ! (from ! (stop !)) (init ! 20 refl (outcome-typed 𝓤 H A W r-outcome-of-2 is-outcome-of-2)) $
         returns ! (look ! 20 refl) $ out ! 20 refl refl $ out ! 18 refl refl $ out ! 16 refl refl $ out ! 14 refl refl $ out ! 12 refl refl $ out ! 10 refl refl $ out ! 8 refl refl $ out ! 6 refl refl $ out ! 4 refl refl $ out ! 2 refl refl $ free0 ! $
-        keep ! (0 ∷ 1 ∷ []) $ by ! (exits r-outcome-of-2 zs-put-slot (one-back slots found answer e-writes-none e-outcome-of-2 (fails-false _ failed) e-place-for e-slot-of e-put-slot) l-put-slot is-outcome-of-2)))))))))))))))))
+        keep ! (0 ∷ 1 ∷ []) $ by ! (exits r-outcome-of-2 zs-put-slot (one-back slots seen answer e-writes-none e-outcome-of-2 (fails-false _ failed) e-place-for e-slot-of e-put-slot) l-put-slot is-outcome-of-2)))))))))))))))))
 
 pub write-found-spec : {M : Type 1} → stated.statement M
 unfolding code.routine
