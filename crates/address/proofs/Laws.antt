@@ -8,9 +8,7 @@ use Rattle.address.specs.declared.Address.{Address}
 use Rattle.address.specs.declared.Address.the-variants.{V4, V6}
 use Rattle.address.specs.declared.TransportAddress.{TransportAddress}
 use Rattle.address.specs.declared.FiveTuple.{FiveTuple}
-use Rattle.address.specs.declared.TransactionId.{TransactionId}
 use Rattle.address.specs.Address.{sameAddress, sameTransportAddress, sameFiveTuple}
-use Rattle.address.specs.Inner.{sameTransactionId}
 
 pub address-same : (a b : Address) → sameAddress a b ≡ true → a ≡ b
 unfolding sameAddress
@@ -59,18 +57,3 @@ pub five-tuple-refl : (a : FiveTuple) → sameFiveTuple a a ≡ true
 unfolding sameFiveTuple
 five-tuple-refl a =
     both-true _ _ (transport-address-refl (a .client)) (both-true _ _ (transport-address-refl (a .server)) (eq-eqb (a .protocol) (a .protocol) refl))
-
-pub transaction-id-same : (a b : TransactionId) → sameTransactionId a b ≡ true → a ≡ b
-unfolding sameTransactionId
-transaction-id-same a b e =
-    let x = both-parts _ _ e in
-    let y = both-parts _ _ (x .1) in
-    let p : a .high ≡ b .high = eqb-true _ _ (x .0) in
-    let q : a .middle ≡ b .middle = eqb-true _ _ (y .0) in
-    let r : a .low ≡ b .low = eqb-true _ _ (y .1) in
-    λ i. record { high = p i; middle = q i; low = r i }
-
-pub transaction-id-refl : (a : TransactionId) → sameTransactionId a a ≡ true
-unfolding sameTransactionId
-transaction-id-refl a =
-    both-true _ _ (eq-eqb (a .high) (a .high) refl) (both-true _ _ (eq-eqb (a .middle) (a .middle) refl) (eq-eqb (a .low) (a .low) refl))

@@ -1,8 +1,7 @@
-// Addresses, peers, 5-tuples and transaction ids, and the tests of their equality.
+// Addresses, transport addresses, 5-tuples and transaction ids, and the tests of equality of the first three.
 use choice::both;
 ghost use mathlib.Core.Path.{_≡_};
 ghost use Rattle.address.specs.Address.{sameAddress, sameTransportAddress, sameFiveTuple};
-ghost use Rattle.address.specs.Inner.{sameTransactionId};
 
 // An IP address: IPv4 in one word, IPv6 in four, the highest first.
 pub enum Address {
@@ -65,10 +64,4 @@ pub fn same_five_tuple(a: FiveTuple, b: FiveTuple) -> bool
         same_transport_address(a.server, b.server),
         a.protocol == b.protocol,
     )
-}
-
-pub fn same_transaction_id(a: TransactionId, b: TransactionId) -> bool
-    ensures { λ r. ⌜ r ≡ sameTransactionId a b ⌝ }
-{
-    both(a.high == b.high, both(a.middle == b.middle, a.low == b.low))
 }

@@ -7,7 +7,7 @@ use mathlib.Core.List.{List, [], _∷_, List·Memᴰ, List·Memᴰ·head, List·
 use native.Mathlib.Omega.{arith}
 use native.Mathlib.Nat.{le-refl, not-suc-le-zero}
 use lib.Dec.{eqb}
-use lib.ListN.{length, set, replicate}
+use lib.ListN.{length, set, replicate, getD}
 use lib.Seq.{getD-set-same, getD-set-other}
 use borrow.Author.Tests.{eqb-true, not-false}
 use Rattle.choice.specs.Choice.{pick, both}
@@ -230,48 +230,45 @@ module _ (t n : ℕ) (p : TransportAddress) (cs : List Channel) (m : ℕ) (taken
   bound-other : (i : ℕ) → i ≢ m → channelAt (set cs m (newChannel t n p)) i ≡ channelAt cs i
   bound-other i d = getD-set-other cs m i (newChannel t n p) freshChannel d
 
-  bind-neat : NeatChannels t cs → NeatChannels t (set cs m (newChannel t n p))
-  bind-neat ne = record { one-num = number; one-peer = peer }
+  -- of a part of a channel that no two live ones share: so it is afterwards, where no other live one has the new channel's
+  still-one : {X : Type 0} (part : Channel → X) → ((i j : ℕ) → LiveChannel t (channelAt cs i) → LiveChannel t (channelAt cs j) → part (channelAt cs i) ≡ part (channelAt cs j) → i ≡ j)
+      → ((i : ℕ) → i ≢ m → LiveChannel t (channelAt cs i) → part (channelAt cs i) ≡ part (newChannel t n p) → ⊥)
+      → (i j : ℕ) → LiveChannel t (channelAt (set cs m (newChannel t n p)) i) → LiveChannel t (channelAt (set cs m (newChannel t n p)) j)
+      → part (channelAt (set cs m (newChannel t n p)) i) ≡ part (channelAt (set cs m (newChannel t n p)) j) → i ≡ j
+  still-one part one alone i j x y q = go (nat? i m) (nat? j m)
     where
-      number : (i j : ℕ) → LiveChannel t (channelAt (set cs m (newChannel t n p)) i) → LiveChannel t (channelAt (set cs m (newChannel t n p)) j)
-          → channelAt (set cs m (newChannel t n p)) i .number ≡ channelAt (set cs m (newChannel t n p)) j .number → i ≡ j
-      number i j x y q = go (nat? i m) (nat? j m)
-        where
-          go : (i ≡ m) ⊎ (i ≢ m) → (j ≡ m) ⊎ (j ≢ m) → i ≡ j
-          go (inl f) (inl g) = f ∙ sym g
-          go (inl f) (inr g) = absurd (alone-number ne j g (rw (bound-other j g) at y) (sym (rw (f, bound-same, bound-other j g) at q)))
-          go (inr f) (inl g) = absurd (alone-number ne i f (rw (bound-other i f) at x) (rw (g, bound-same, bound-other i f) at q))
-          go (inr f) (inr g) = ne .one-num i j (rw (bound-other i f) at x) (rw (bound-other j g) at y) (rw (bound-other i f, bound-other j g) at q)
+      go : (i ≡ m) ⊎ (i ≢ m) → (j ≡ m) ⊎ (j ≢ m) → i ≡ j
+      go (inl f) (inl g) = f ∙ sym g
+      go (inl f) (inr g) = absurd (alone j g (rw (bound-other j g) at y) (sym (rw (f, bound-same, bound-other j g) at q)))
+      go (inr f) (inl g) = absurd (alone i f (rw (bound-other i f) at x) (rw (g, bound-same, bound-other i f) at q))
+      go (inr f) (inr g) = one i j (rw (bound-other i f) at x) (rw (bound-other j g) at y) (rw (bound-other i f, bound-other j g) at q)
 
-      peer : (i j : ℕ) → LiveChannel t (channelAt (set cs m (newChannel t n p)) i) → LiveChannel t (channelAt (set cs m (newChannel t n p)) j)
-          → channelAt (set cs m (newChannel t n p)) i .peer ≡ channelAt (set cs m (newChannel t n p)) j .peer → i ≡ j
-      peer i j x y q = go (nat? i m) (nat? j m)
-        where
-          go : (i ≡ m) ⊎ (i ≢ m) → (j ≡ m) ⊎ (j ≢ m) → i ≡ j
-          go (inl f) (inl g) = f ∙ sym g
-          go (inl f) (inr g) =
-              let z = rw (bound-other j g) at y in
-              absurd (alone-number ne j g z (same-number ne j z (sym (rw (f, bound-same, bound-other j g) at q))))
-          go (inr f) (inl g) =
-              let z = rw (bound-other i f) at x in
-              absurd (alone-number ne i f z (same-number ne i z (rw (g, bound-same, bound-other i f) at q)))
-          go (inr f) (inr g) = ne .one-peer i j (rw (bound-other i f) at x) (rw (bound-other j g) at y) (rw (bound-other i f, bound-other j g) at q)
+  bind-neat : NeatChannels t cs → NeatChannels t (set cs m (newChannel t n p))
+  bind-neat ne = record {
+    one-num = still-one (λ c. c .number) (ne .one-num) (alone-number ne);
+    one-peer = still-one (λ c. c .peer) (ne .one-peer) (λ i d x q. alone-number ne i d x (same-number ne i x q));
+  }
 
--- ---- What an accepted ChannelBind does to a slot
-pub record Bound (t : ℕ) (a : Address) (was slot : Slot) : Type 0 where
+-- ---- What an accepted CreatePermission or ChannelBind for these addresses does to a slot
+pub record Admits (t : ℕ) (xs : List Address) (was slot : Slot) : Type 0 where
   pub allocation-is : slot .allocation ≡ was .allocation
   pub channels-neat : NeatChannels t (was .channels) → NeatChannels t (slot .channels)
-  pub grants : Granting t (a ∷ []) (was .permissions) (slot .permissions)
+  pub grants : Granting t xs (was .permissions) (slot .permissions)
 
-pub bound-is : (t n : ℕ) (p : TransportAddress) (was : Slot) → peerTaken t n p (was .channels) ≡ false → permit t (p .address) was .ok ≡ true
-    → bind t n p (permit t (p .address) was .slot) .ok ≡ true → Bound t (p .address) was (bound t n p was)
+pub all-admitted : (t : ℕ) (l : List AddressValue) (was : Slot) → permitAll t l was was .ok ≡ true → Admits t (addressesOf l) was (permitAll t l was was .slot)
+all-admitted t l was ok =
+    let x = all-extends t l was was ok in
+    record { allocation-is = x .allocation-is; channels-neat = λ n. rw (x .channels-are) n; grants = x .grants }
+
+pub bound-admitted : (t n : ℕ) (p : TransportAddress) (was : Slot) → peerTaken t n p (was .channels) ≡ false → permit t (p .address) was .ok ≡ true
+    → bind t n p (permit t (p .address) was .slot) .ok ≡ true → Admits t (p .address ∷ []) was (bound t n p was)
 unfolding bound bind putAt
-bound-is t n p was taken ok ok′ =
+bound-admitted t n p was taken ok ok′ =
     let x = permit-extends t (p .address) was ok in
     go (permit t (p .address) was .slot) x (channelEntry t n (permit t (p .address) was .slot .channels)) refl ok′
   where
     go : (half : Slot) → Extends t (p .address ∷ []) was half → (f : Found) → channelEntry t n (half .channels) ≡ f → has f ≡ true
-        → Bound t (p .address) was (record { allocation = half .allocation; permissions = half .permissions; channels = putAt f (newChannel t n p) (half .channels) })
+        → Admits t (p .address ∷ []) was (record { allocation = half .allocation; permissions = half .permissions; channels = putAt f (newChannel t n p) (half .channels) })
     go half x Nothing e ok = absurd (false≢true ok)
     go half x (At m) e ok = record {
       allocation-is = x .allocation-is;
@@ -283,24 +280,20 @@ bound-is t n p was taken ok ok′ =
         neat ne = rw (x .channels-are) (bind-neat t n p (was .channels) m taken (rw (x .channels-are) at e) ne)
 
 -- ---- A fresh slot
-pub fresh-permissions : (n j : ℕ) → permissionAt (replicate n freshPermission) j ≡ freshPermission
-fresh-permissions zero j = refl
-fresh-permissions (suc n) zero = refl
-fresh-permissions (suc n) (suc j) = fresh-permissions n j
-
-pub fresh-channels : (n j : ℕ) → channelAt (replicate n freshChannel) j ≡ freshChannel
-fresh-channels zero j = refl
-fresh-channels (suc n) zero = refl
-fresh-channels (suc n) (suc j) = fresh-channels n j
+-- where every entry is fresh, each is, and what stands past the end too
+pub all-fresh : {A : Type 0} (fresh : A) (n j : ℕ) → getD (replicate n fresh) j fresh ≡ fresh
+all-fresh fresh zero j = refl
+all-fresh fresh (suc n) zero = refl
+all-fresh fresh (suc n) (suc j) = all-fresh fresh n j
 
 pub fresh-bare : (n : ℕ) (a : Address) (t : ℕ) → HasPermission t a (replicate n freshPermission) → ⊥
-fresh-bare n a t p = not-suc-le-zero (rw (fresh-permissions n (p .at)) at (p .live))
+fresh-bare n a t p = not-suc-le-zero (rw (all-fresh freshPermission n (p .at)) at (p .live))
 
 pub fresh-neat : (n m t : ℕ) → Neat t (replicate n freshPermission) (replicate m freshChannel)
 fresh-neat n m t = record {
-  perms = record { one-perm = λ i j x y e. absurd (not-suc-le-zero (rw (fresh-permissions n i) at x)); short = λ j. rw (fresh-permissions n j) zero-le };
+  perms = record { one-perm = λ i j x y e. absurd (not-suc-le-zero (rw (all-fresh freshPermission n i) at x)); short = λ j. rw (all-fresh freshPermission n j) zero-le };
   chans = record {
-    one-num = λ i j x y e. absurd (not-suc-le-zero (rw (fresh-channels m i) at (x .0)));
-    one-peer = λ i j x y e. absurd (not-suc-le-zero (rw (fresh-channels m i) at (x .0)));
+    one-num = λ i j x y e. absurd (not-suc-le-zero (rw (all-fresh freshChannel m i) at (x .0)));
+    one-peer = λ i j x y e. absurd (not-suc-le-zero (rw (all-fresh freshChannel m i) at (x .0)));
   };
 }

@@ -50,9 +50,8 @@ use Rattle.client_reader.proofs.Ranges.{address-fits}
 use Rattle.history.specs.Events.{TransportFits, CallFits, Arrival, acts, next, Event, Happened, Lived}
 use Rattle.history.specs.Statement.{permissionAt, channelAt}
 use Rattle.history.specs.Fits.{AllocationFits, PermissionFits, ChannelFits, SlotFits, StateFits}
-use Rattle.history.proofs.Entries.{fresh-permissions, fresh-channels}
+use Rattle.history.proofs.Entries.{all-fresh}
 use Rattle.history.proofs.FreePort.{port-fits}
-use Rattle.history.proofs.Whole.{fresh-slots}
 
 -- ---- An entry written into a list
 module _ {A : Type 0} (P : A → Type 0) (d x : A) (h : P x) where
@@ -79,9 +78,9 @@ unfolding freshSlot
 fresh-fits = record {
   allocation = record { user = lit< tt; client = (lit< tt, lit< tt); server = (lit< tt, lit< tt); protocol = lit< tt; port = lit< tt; expiry = lit< tt };
   eight-permissions = refl;
-  permissions = λ i. rw (fresh-permissions 8 i) (record { address = lit< tt; expiry = lit< tt });
+  permissions = λ i. rw (all-fresh freshPermission 8 i) (record { address = lit< tt; expiry = lit< tt });
   eight-channels = refl;
-  channels = λ i. rw (fresh-channels 8 i) (record { number = lit< tt; peer = (lit< tt, lit< tt); expiry = lit< tt });
+  channels = λ i. rw (all-fresh freshChannel 8 i) (record { number = lit< tt; peer = (lit< tt, lit< tt); expiry = lit< tt });
 }
 
 found-fits : (found : Found) (l : List Slot) → ((i : ℕ) → SlotFits (slotAt l i)) → SlotFits (atOr freshSlot found l)
@@ -249,7 +248,7 @@ next-fits st a f = go (eqb number 0) refl
 
 -- ---- Every list of calls
 pub empty-fits : StateFits empty
-empty-fits = record { clock = lit< tt; sixty-four = refl; slots = λ i. rw (fresh-slots 64 i) fresh-fits }
+empty-fits = record { clock = lit< tt; sixty-four = refl; slots = λ i. rw (all-fresh freshSlot 64 i) fresh-fits }
 
 pub slots-fit : (list : List Event) (first last : State) → Lived first list last → StateFits first → StateFits last
 slots-fit [] first last l f = rw (← l) f

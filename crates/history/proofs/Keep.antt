@@ -104,6 +104,17 @@ module _ (now : ℕ) (v w : View) (h : List Counted) (I : Accounts now v h) wher
     other : (i : ℕ) → i ≢ k → Live now (v i) → (C : FiveTuple) → v k .allocation .«five_tuple» ≡ C → v i .allocation .«five_tuple» ≢ C
     other i ne x C m e = ne (I .own i k x live (e ∙ sym m))
 
+  -- what was granted to another client, a slot other than C's shows, before and after
+  elsewhere : (k : ℕ) → Frame now k v w → (C : FiveTuple) → v k .allocation .«five_tuple» ≡ C → (D : FiveTuple) (t : ℕ) → now ≤ t → D ≢ C → Granted h D t
+      → (i : ℕ) × (w i .allocation .«five_tuple» ≡ D) × (t < w i .allocation .expiry)
+  elsewhere k f C mine D t le ne g =
+      let s = I .granted← D t le g in
+      let i : ℕ = s .0 in
+      let lt : t < v i .allocation .expiry = s .2 in
+      let x : Live now (v i) = omega arith in
+      let p = f .before i (λ (e : i ≡ k). ne (sym (s .1) ∙ ap (λ (m : ℕ). v m .allocation .«five_tuple») e ∙ mine)) x in
+      (i, rw p (s .1), rw p lt)
+
   keep-renew : (C : FiveTuple) (n : ℕ) (c : Renew now v w C n) → Accounts now w (kept C now n ∷ h)
   keep-renew C n c = record {
     own = same-own (c .k) (c .frame) (c .live) (c .who);
@@ -123,13 +134,7 @@ module _ (now : ℕ) (v w : View) (h : List Counted) (I : Accounts now v h) wher
     where
       back : (D : FiveTuple) (t : ℕ) → now ≤ t → Granted (kept C now n ∷ h) D t → (i : ℕ) × (w i .allocation .«five_tuple» ≡ D) × (t < w i .allocation .expiry)
       back D t le (inl g) = (c .k, c .who ∙ c .mine ∙ sym (g .0), rw (c .until) (g .1 .not-over))
-      back D t le (inr g) =
-          let s = I .granted← D t le (g .1) in
-          let i : ℕ = s .0 in
-          let lt : t < v i .allocation .expiry = s .2 in
-          let x : Live now (v i) = omega arith in
-          let p = c .frame .before i (λ (e : i ≡ c .k). g .0 (sym (s .1) ∙ ap (λ (m : ℕ). v m .allocation .«five_tuple») e ∙ c .mine)) x in
-          (i, rw p (s .1), rw p lt)
+      back D t le (inr g) = elsewhere (c .k) (c .frame) C (c .mine) D t le (g .0) (g .1)
 
   keep-end : (C : FiveTuple) (n : ℕ) (c : End now v w C n) → Accounts now w (kept C now n ∷ h)
   keep-end C n c = record {
@@ -154,13 +159,7 @@ module _ (now : ℕ) (v w : View) (h : List Counted) (I : Accounts now v h) wher
 
       back : (D : FiveTuple) (t : ℕ) → now ≤ t → Granted (kept C now n ∷ h) D t → (i : ℕ) × (w i .allocation .«five_tuple» ≡ D) × (t < w i .allocation .expiry)
       back D t le (inl g) = absurd (g .1 .not-zero (c .no-time))
-      back D t le (inr g) =
-          let s = I .granted← D t le (g .1) in
-          let i : ℕ = s .0 in
-          let lt : t < v i .allocation .expiry = s .2 in
-          let x : Live now (v i) = omega arith in
-          let p = c .frame .before i (λ (e : i ≡ c .k). g .0 (sym (s .1) ∙ ap (λ (m : ℕ). v m .allocation .«five_tuple») e ∙ c .mine)) x in
-          (i, rw p (s .1), rw p lt)
+      back D t le (inr g) = elsewhere (c .k) (c .frame) C (c .mine) D t le (g .0) (g .1)
 
   keep-admit : (C : FiveTuple) (xs : List Address) (c : Admit now v w C xs) → Accounts now w (allowed C xs (now + 300) ∷ h)
   keep-admit C xs c = record {

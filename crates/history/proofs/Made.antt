@@ -11,6 +11,7 @@ use lib.ListN.{length, set}
 use lib.Seq.{getD-set-same, getD-set-other}
 use borrow.Author.Tests.{eqb-true, eqb-false}
 use Rattle.choice.specs.Choice.{pick}
+use Rattle.address.specs.declared.Address.{Address}
 use Rattle.address.specs.declared.FiveTuple.{FiveTuple}
 use Rattle.stun.specs.declared.kinds.Method.{Method}
 use Rattle.stun.specs.declared.kinds.Method.the-variants.{Allocate, Refresh, CreatePermission, ChannelBind}
@@ -51,7 +52,7 @@ use Rattle.history.specs.Statement.{Live}
 use Rattle.history.proofs.Table as table
 use Rattle.history.proofs.Table.{View, Frame, Quiet}
 use Rattle.history.proofs.Tests.{find-some, has-not, own-is, lapsed-is, none-own, none-port}
-use Rattle.history.proofs.Entries.{all-extends, bound-is, fresh-bare, fresh-neat}
+use Rattle.history.proofs.Entries.{Admits, all-admitted, bound-admitted, fresh-bare, fresh-neat}
 use Rattle.history.proofs.Asking.{asks-for}
 use Rattle.history.proofs.FreePort.{port-free, port-fits}
 use Rattle.history.proofs.Replies.{Unaccepted, dropped-unaccepted, to-peer-unaccepted, error-unaccepted, allocate-counts, refresh-counts, permission-counts, channel-counts}
@@ -188,51 +189,36 @@ module _ (call : FromClient) (st : State) (s reply : List ℕ) (full : length (s
               some-time = eqb-false _ _ z;
             })
 
+    -- a request for these addresses made this slot
+    admitted : (xs : List Address) (made : Slot) → slot ≡ made → Admits (call .time) xs (slotAt l k) made
+        → table.Admit (call .time) (slotAt l) (slotAt (set l k slot)) (call .«five_tuple») xs
+    admitted xs made e x =
+        let is : slotAt (set l k slot) k ≡ made = put-same k slot room ∙ e in
+        let g = x .grants in
+        record {
+          k = k;
+          frame = put-frame k slot;
+          live = live;
+          mine = mine;
+          who = rw (is, x .allocation-is);
+          port = rw (is, x .allocation-is);
+          until = rw (is, x .allocation-is);
+          neat = λ n. rw is (record { perms = g .neat (n .perms); chans = x .channels-neat (n .chans) });
+          perms→ = rw is (g .to);
+          perms← = rw is (λ n. g .from (n .perms));
+        }
+
     permitted-made : askedBy s ≡ Asked.CreatePermission → createPermission (asRules call) s own (slotAt l k) ≡ write slot out → Made (put k slot out)
     permitted-made asked e =
         let r = permits (asRules call) s slot out own (slotAt l k) e in
-        let x = all-extends (call .time) (peers s) (slotAt l k) (slotAt l k) (r .room) in
-        let is : slotAt (set l k slot) k ≡ permitAll (call .time) (peers s) (slotAt l k) (slotAt l k) .slot = put-same k slot room ∙ r .slot-is in
-        let g = x .grants in
-        rw (r .out-is, permission-counts call s reply bytes (asks-for CreatePermission s asked)) (
-          refl,
-          record {
-            k = k;
-            frame = put-frame k slot;
-            live = live;
-            mine = mine;
-            who = rw (is, x .allocation-is);
-            port = rw (is, x .allocation-is);
-            until = rw (is, x .allocation-is);
-            neat = λ n. rw is (record { perms = g .neat (n .perms); chans = rw (x .channels-are) (n .chans) });
-            perms→ = rw is (g .to);
-            perms← = rw is (λ n. g .from (n .perms));
-          },
-        )
+        rw (r .out-is, permission-counts call s reply bytes (asks-for CreatePermission s asked))
+        (refl, admitted _ _ (r .slot-is) (all-admitted (call .time) (peers s) (slotAt l k) (r .room)))
 
     bound-made : askedBy s ≡ Asked.ChannelBind → channelBind (asRules call) s own (slotAt l k) ≡ write slot out → Made (put k slot out)
     bound-made asked e =
         let r = binds (asRules call) s slot out own (slotAt l k) e in
-        let peer = firstPeer s .peer in
-        let number = numberGiven (channelNumber s) in
-        let x = bound-is (call .time) number peer (slotAt l k) (r .peer-free) (r .permitted) (r .bound-ok) in
-        let is : slotAt (set l k slot) k ≡ bound (call .time) number peer (slotAt l k) = put-same k slot room ∙ r .slot-is in
-        let g = x .grants in
-        rw (r .out-is, channel-counts call s reply bytes (asks-for ChannelBind s asked)) (
-          refl,
-          record {
-            k = k;
-            frame = put-frame k slot;
-            live = live;
-            mine = mine;
-            who = rw (is, x .allocation-is);
-            port = rw (is, x .allocation-is);
-            until = rw (is, x .allocation-is);
-            neat = λ n. rw is (record { perms = g .neat (n .perms); chans = x .channels-neat (n .chans) });
-            perms→ = rw is (g .to);
-            perms← = rw is (λ n. g .from (n .perms));
-          },
-        )
+        rw (r .out-is, channel-counts call s reply bytes (asks-for ChannelBind s asked))
+        (refl, admitted _ _ (r .slot-is) (bound-admitted (call .time) (numberGiven (channelNumber s)) (firstPeer s .peer) (slotAt l k) (r .peer-free) (r .permitted) (r .bound-ok)))
 
 -- ---- What is given out without a change of the slot counts as nothing
 send-unaccepted : (call : ClientCall) (s : List ℕ) (own : Bool) (slot : Slot) → Unaccepted (send call s own slot)

@@ -47,17 +47,13 @@ use Rattle.history.proofs.Table as table
 use Rattle.history.proofs.Table.{Accounts, AccountsFor, own-port, accounts-later, Reach, reach→, reach←}
 use Rattle.history.proofs.Keep.{keep as keep-accounts}
 use Rattle.history.proofs.Tests.{find-some, port-is, none-port, has-permission→, has-permission←}
+use Rattle.history.proofs.Entries.{all-fresh}
 use Rattle.history.proofs.Made.{quiet, made-asked}
 
 -- ---- The empty relay
-pub fresh-slots : (n i : ℕ) → slotAt (replicate n freshSlot) i ≡ freshSlot
-fresh-slots zero i = refl
-fresh-slots (suc n) zero = refl
-fresh-slots (suc n) (suc i) = fresh-slots n i
-
 none-live : (i : ℕ) → Live 0 (slotAt (empty .slots) i) → ⊥
 unfolding freshSlot
-none-live i x = not-suc-le-zero (rw (fresh-slots 64 i) at x)
+none-live i x = not-suc-le-zero (rw (all-fresh freshSlot 64 i) at x)
 
 pub accounts-empty : AccountsFor [] empty
 accounts-empty = record {

@@ -33,7 +33,6 @@ ghost use Prim.Native.Nat.{_<_};
 ghost use lib.ListN.{length};
 ghost use Rattle.slot.specs.Search.{atOr, has};
 ghost use Rattle.slot.specs.Slot.{freshSlot};
-ghost use Rattle.table.specs.Inner.{Within};
 ghost use Rattle.relay.specs.State.{state};
 ghost use Rattle.relay.specs.Step.{Stepped};
 ghost use Rattle.decisions.specs.Inner.{Ready, UserFits, isData, placeIn};
@@ -49,14 +48,6 @@ fn look_for(slots: &[Slot], datagram: &[u8], call: Call) -> Seen
     let asked = asked_for(datagram, call);
     let survey = look(slots, wanted_by(call, asked));
     with_survey(asked, survey)
-}
-
-// The slot that was found.
-fn read_found(slots: &[Slot], seen: Seen) -> Slot
-    requires { ⌜ (has (seen .survey .own) ≡ true) × Within (seen .survey .own) (length (now slots)) ⌝ }
-    ensures { λ r. ⌜ r ≡ atOr freshSlot (seen .survey .own) (now (slots .entry)) ⌝ }
-{
-    slot_at(slots, own_place(seen))
 }
 
 // The slot is written back where it changed.
@@ -116,7 +107,7 @@ fn answer_own(
     requires { ⌜ (Ready call (now datagram) (now reply) × Saw (now slots) call (now datagram) seen) × (has (seen .survey .own) ≡ true) ⌝ }
     ensures { λ r. ⌜ Answered (now (slots .entry)) call (now (datagram .entry)) r (now (slots .exit)) (now (reply .entry)) (now (reply .exit)) ⌝ }
 {
-    let own = read_found(slots, seen);
+    let own = slot_at(slots, own_place(seen));
     answer_found(slots, call, seen, own, datagram, reply)
 }
 

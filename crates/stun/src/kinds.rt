@@ -198,7 +198,7 @@ impl AttributeKind {
         }
     }
 
-    pub fn is_unknown(self) -> bool
+    pub(crate) fn is_unknown(self) -> bool
         ensures { λ r. ⌜ r ≡ unknownKind self ⌝ }
     {
         match self {

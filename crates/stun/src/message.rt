@@ -21,7 +21,7 @@ pub enum Step {
     Short,
 }
 
-pub fn step_at(s: &[u8], at: usize) -> Step
+pub(crate) fn step_at(s: &[u8], at: usize) -> Step
     ensures { λ r. ⌜ r ≡ stepAt (now (s .entry)) at ⌝ }
 {
     if s.len() <= at {
@@ -47,7 +47,7 @@ pub fn step_at(s: &[u8], at: usize) -> Step
 }
 
 // Whether each attribute fits whole.
-pub fn attributes_fit(s: &[u8]) -> bool
+pub(crate) fn attributes_fit(s: &[u8]) -> bool
     ensures { λ r. ⌜ r ≡ attributesFit (now (s .entry)) ⌝ }
 {
     let mut at = crate::HEADER;
@@ -108,7 +108,7 @@ pub enum Reading {
 }
 
 // Nothing is read from the first MESSAGE-INTEGRITY on.
-pub fn next_attribute(s: &[u8], at: usize) -> Reading
+pub(crate) fn next_attribute(s: &[u8], at: usize) -> Reading
     ensures { λ r. ⌜ Next (now (s .entry)) at r ⌝ }
 {
     match step_at(s, at) {
