@@ -1,7 +1,6 @@
 -- Each test of equality says equality: true means equal, and a value equals itself.
 use mathlib.Core.Path.{_≡_, refl}
-use mathlib.Core.Bool.{Bool, true, false, false≢true}
-use lib.Dec.{eqb}
+use mathlib.Core.Bool.{true, false≢true}
 use borrow.Author.Tests.{eqb-true, eq-eqb}
 use Rattle.choice.proofs.Laws.{both-parts, both-true}
 use Rattle.address.specs.declared.Address.{Address}

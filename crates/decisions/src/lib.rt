@@ -15,7 +15,6 @@ use permission_rules::permissions::create_permission;
 use rules::answer::Answer;
 use rules::answer::Outcome;
 use rules::requests::ClientCall;
-use slot::Found;
 use slot::Slot;
 use slot::fresh_slot;
 use slot::has;

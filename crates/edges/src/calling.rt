@@ -22,7 +22,6 @@ use interface::incoming::call_of_client;
 use interface::incoming::call_of_peer;
 use relay::Held;
 use relay::held_datagram;
-use relay::state::Bookkeeping;
 use rules::answer::Outcome;
 use slot::fresh_slot;
 

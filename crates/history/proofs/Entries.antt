@@ -20,7 +20,7 @@ use Rattle.slot.specs.declared.Slot.{Slot}
 use Rattle.slot.specs.declared.Placed.{Placed}
 use Rattle.slot.specs.declared.Found.{Found}
 use Rattle.slot.specs.declared.Found.the-variants.{At, Nothing}
-use Rattle.slot.specs.Search.{find, has, entry, putAt, atOr}
+use Rattle.slot.specs.Search.{find, has, putAt, atOr}
 use Rattle.slot.specs.Slot.{freshPermission, freshChannel, permits, freePermission, permissionEntry, permit, numbered, leadsTo, freeChannel, peerTaken, channelEntry, bind}
 use Rattle.permission_rules.specs.Permissions.{permitPeer, permitAll, bound}
 use Rattle.history.specs.Events.{addressesOf}

@@ -1,12 +1,12 @@
 -- Every call leaves a state whose numbers are of their types.
 use Prim.Native.Nat.{ℕ, zero, suc, _+_, _<_, _≤_, _^_}
-use mathlib.Core.Path.{_≡_, refl, sym, _∙_}
+use mathlib.Core.Path.{_≡_, refl, _∙_}
 use mathlib.Core.Logic.{_⊎_, inl, inr}
 use mathlib.Core.Bool.{Bool, true, false}
 use mathlib.Core.List.{List, [], _∷_}
 use native.Mathlib.Omega.{arith}
 use lib.Dec.{eqb, lit<}
-use lib.ListN.{length, getD, set, length-set, length-replicate}
+use lib.ListN.{length, getD, set, length-set}
 use borrow.Author.Tests.{eqb-true, leb-true}
 use Rattle.choice.specs.Choice.{pick}
 use Rattle.choice.proofs.Laws.{both-parts}
@@ -18,8 +18,6 @@ use Rattle.stun.specs.AttributeNumbers as attribute
 use Rattle.stun.specs.Message.{attributesFrom}
 use Rattle.stun.specs.Values.{addressAt, peersOf, peersFrom, peers, headOf, firstPeer}
 use Rattle.slot.specs.declared.Slot.{Slot}
-use Rattle.slot.specs.declared.Permission.{Permission}
-use Rattle.slot.specs.declared.Channel.{Channel}
 use Rattle.slot.specs.declared.Found.{Found}
 use Rattle.slot.specs.declared.Found.the-variants.{At, Nothing}
 use Rattle.slot.specs.declared.Placed.{Placed}
@@ -29,8 +27,8 @@ use Rattle.table.specs.Table.{slotAt}
 use Rattle.decisions.specs.declared.client.Asked.{Asked}
 use Rattle.decisions.specs.declared.client.Asked.the-variants as Asked
 use Rattle.rules.specs.Change.{Out, Change, keep, write}
-use Rattle.rules.specs.Values.{lifetime, channelNumber, numberGiven}
-use Rattle.allocation_rules.specs.Allocations.{allocated, renewed, refreshed, granted, grantedRefresh}
+use Rattle.rules.specs.Values.{lifetime}
+use Rattle.allocation_rules.specs.Allocations.{allocated, renewed, refreshed}
 use Rattle.permission_rules.specs.Permissions.{permitPeer, permitAll, bound}
 use Rattle.decisions.specs.Client.{askedBy}
 use Rattle.rules.proofs.Laws.{kept-not-written}
@@ -39,7 +37,7 @@ use Rattle.interface.specs.declared.incoming.Call.{Call}
 use Rattle.interface.specs.declared.incoming.Call.the-variants.{Client, Peer}
 use Rattle.interface.specs.declared.incoming.FromClient.{FromClient}
 use Rattle.relay.specs.State.{State, empty, clockOf, atTime}
-use Rattle.relay.specs.Outcomes.{Act, refuse, stateAfter}
+use Rattle.relay.specs.Outcomes.{refuse, stateAfter}
 use Rattle.interface.specs.Refusals.{timeOf, lengths, refusal}
 use Rattle.decisions.specs.Decisions.{asRules, roomFor, onAsked, decided}
 use Rattle.relay.specs.Step.{done, accepted, act}
@@ -47,9 +45,8 @@ use Rattle.decisions.specs.Inner.{Ready}
 use Rattle.relay.proofs.Laws.{not-refused}
 use Rattle.client_reader.specs.Fields.{Bytes, AddressFits}
 use Rattle.client_reader.proofs.Ranges.{address-fits}
-use Rattle.history.specs.Events.{TransportFits, CallFits, Arrival, acts, next, Event, Happened, Lived}
-use Rattle.history.specs.Statement.{permissionAt, channelAt}
-use Rattle.history.specs.Fits.{AllocationFits, PermissionFits, ChannelFits, SlotFits, StateFits}
+use Rattle.history.specs.Events.{TransportFits, CallFits, Arrival, next, Event, Lived}
+use Rattle.history.specs.Fits.{PermissionFits, ChannelFits, SlotFits, StateFits}
 use Rattle.history.proofs.Entries.{all-fresh}
 use Rattle.history.proofs.FreePort.{port-fits}
 

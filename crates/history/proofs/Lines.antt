@@ -1,33 +1,31 @@
 -- Lines that the call program runs one after another are a list of calls; so demand 3 holds of them.
-use Prim.Native.Nat.{ℕ, zero, suc, _+_, _*_, _<_, _≤_, _^_}
+use Prim.Native.Nat.{ℕ, zero, suc, _+_, _<_, _≤_}
 use mathlib.Core.Path.{_≡_, refl, sym, _∙_, ap, subst}
 use mathlib.Core.Bool.{Bool, true, false, false≢true}
 use mathlib.Core.List.{List, [], _∷_, _++_}
 use native.Mathlib.Omega.{arith}
 use lib.Dec.{eqb, ltb, lit<}
-use lib.ListN.{length, getD, take, drop, replicate, length-replicate}
+use lib.ListN.{length, drop, replicate, length-replicate}
 use lib.Seq.{take-at}
 use borrow.Author.Tests.{ltb-true, le-ltb}
 use Rattle.choice.specs.Choice.{pick, both, lookup}
 use Rattle.choice.proofs.Laws.{both-parts}
-use Rattle.address.specs.declared.Address.{Address}
 use Rattle.address.specs.declared.Address.the-variants.{V4, V6}
 use Rattle.text.specs.declared.Parsed.{Parsed}
 use Rattle.text.specs.Text.{digitValue, isHex, hexBytesOf}
 use Rattle.interface.specs.declared.incoming.Call.{Call}
 use Rattle.relay.specs.State.{State, empty}
-use Rattle.relay.specs.Outcomes.{Act, outcomeOf, replyAfter, stateAfter}
+use Rattle.relay.specs.Outcomes.{Act, stateAfter}
 use Rattle.relay.specs.Step.{act}
-use Rattle.script.specs.Answers.{badAnswer}
 use Rattle.lines.specs.Fields.{fieldEnd, isMore, rest, isNumber, valueOf, numberUpTo, isAddress, wordAt, addressOf}
 use Rattle.lines.specs.Inner.{NumberAt}
 use Rattle.lines.specs.Lines.{Line, bad, asks, callFromClient, callFromPeer, withDatagram, clientLine, peerLine, formOf, lineOf}
-use Rattle.script.specs.Run.{shown, lineAct, answerTo, stateTo, Runs}
+use Rattle.script.specs.Run.{shown, lineAct, answerTo, stateTo}
 use Rattle.lines.proofs.Read.{number-at, word-fits}
 use Rattle.client_reader.specs.Fields.{Bytes, AddressFits}
-use Rattle.history.specs.Events.{CallFits, Arrival, acts, outcome, replied, next, Event, Lived}
+use Rattle.history.specs.Events.{CallFits, Arrival, acts, outcome, replied, Event, Lived}
 use Rattle.history.specs.Statement.{Demand3}
-use Rattle.history.specs.Lines.{Row, Ran, RanAll, Shows, FromLine, FromLines}
+use Rattle.history.specs.Lines.{Row, Ran, RanAll, FromLine, FromLines}
 use Rattle.history.proofs.Demand.{demand-3}
 
 -- ---- What a line reads is of its type

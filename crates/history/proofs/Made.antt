@@ -32,7 +32,7 @@ use Rattle.rules.specs.declared.requests.ClientCall.{ClientCall}
 use Rattle.rules.specs.Change.{Out, dropped, toClient, toPeer, Change, keep, write, errorMessage, respond}
 use Rattle.rules.specs.Values.{lifetime, channelNumber, numberGiven, anyUnknown, malformedPeer, ipv6Peer}
 use Rattle.allocation_rules.specs.Allocations.{allocated, allocate, renewed, refreshed, refresh, granted, grantedRefresh}
-use Rattle.permission_rules.specs.Permissions.{permitAll, createPermission, bound, channelBind}
+use Rattle.permission_rules.specs.Permissions.{createPermission, channelBind}
 use Rattle.data_rules.specs.Data.{permitted, sentFrom, send, channelledFrom, sendChannelData}
 use Rattle.decisions.specs.declared.client.Asked.{Asked}
 use Rattle.decisions.specs.declared.client.Asked.the-variants as Asked
@@ -46,7 +46,6 @@ use Rattle.relay.specs.Outcomes.{Act, accept, outcomeOf, replyAfter, stateAfter
 use Rattle.decisions.specs.Decisions.{asRules, roomFor, onAsked}
 use Rattle.relay.specs.Step.{done}
 use Rattle.client_reader.specs.Fields.{Bytes}
-use Rattle.history.specs.Counted.{nothing, kept}
 use Rattle.history.specs.Events.{CallFits, countsBy}
 use Rattle.history.specs.Statement.{Live}
 use Rattle.history.proofs.Table as table

@@ -13,7 +13,7 @@ use Rattle.address.specs.declared.FiveTuple.{FiveTuple}
 use Rattle.address.specs.Address.{sameFiveTuple}
 use Rattle.address.proofs.Laws.{five-tuple-refl}
 use Rattle.history.specs.Counted.{Counted, gave, kept, allowed, nothing}
-use Rattle.history.specs.Statement.{Lasts, FromAllocate, FromRefresh, GoesTo}
+use Rattle.history.specs.Statement.{FromAllocate, FromRefresh, GoesTo}
 use Rattle.history.proofs.Tests.{clash}
 
 -- ---- Those of a list that pass a test

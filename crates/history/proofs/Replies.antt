@@ -1,9 +1,8 @@
 -- What a reply counts as, read off its bytes by the clients' reader.
-use Prim.Native.Nat.{ℕ, _+_, _≤_, _<_, _^_, _/_}
+use Prim.Native.Nat.{ℕ, _+_, _<_, _^_, _/_}
 use mathlib.Core.Path.{_≡_, refl, ap, _∙_}
-use mathlib.Core.Bool.{Bool, true, false, not}
+use mathlib.Core.Bool.{Bool, true, false}
 use mathlib.Core.List.{List, _∷_, [], _++_}
-use native.Mathlib.Omega.{arith}
 use lib.Dec.{eqb, leb}
 use lib.ListN.{length, take, drop}
 use lib.Seq.{take-at}
@@ -18,12 +17,11 @@ use Rattle.stun.specs.Kinds.{errorType}
 use Rattle.stun.specs.Message.{unknownTypes}
 use Rattle.stun.specs.Values.{transactionId, peers, firstPeer}
 use Rattle.messages.specs.Messages.{messageBytes, errorCodeAttribute, unknownAttribute, errorResponse, unknownResponse, allocateSuccess, refreshSuccess, bareSuccess}
-use Rattle.rules.specs.declared.answer.Outcome.{Outcome}
-use Rattle.rules.specs.Change.{Out, dropped, toClient, toPeer, Change, keep, write, outcomeOf, replyAfter, errorMessage}
+use Rattle.rules.specs.Change.{Out, dropped, toClient, toPeer, outcomeOf, replyAfter, errorMessage}
 use Rattle.interface.specs.declared.incoming.Call.the-variants.{Client}
 use Rattle.interface.specs.declared.incoming.FromClient.{FromClient}
 use Rattle.client_reader.specs.declared.ReadMessage.{ReadMessage}
-use Rattle.client_reader.specs.Fields.{Bytes, IdFits, AddressFits, written, plain}
+use Rattle.client_reader.specs.Fields.{Bytes, IdFits, written, plain}
 use Rattle.client_reader.specs.declared.Message.the-variants.{Error}
 use Rattle.client_reader.specs.Inner.{countFits, allBelow, typesOf, unknownOf, when, errorFields, unknownFields, plainErrorFields, codeOf, fieldsOf, sameBytes, checked}
 use Rattle.client_reader.specs.Reader.{messageIn}

@@ -23,7 +23,7 @@ use stun::values::channel_number;
 use stun::values::first_peer;
 use stun::values::transaction_id;
 ghost use mathlib.Core.Path.{_≡_};
-ghost use Prim.Native.Nat.{_≤_, _^_, _<_};
+ghost use Prim.Native.Nat.{_≤_, _^_};
 ghost use lib.ListN.{length};
 ghost use Rattle.stun.specs.Values.{firstPeer};
 ghost use Rattle.rules.specs.Values.{channelNumber, numberGiven};

@@ -5,7 +5,6 @@ use address::TransportAddress;
 use rules::answer::Outcome;
 use text::put_decimal;
 use text::put_hex_bytes;
-ghost use mathlib.Core.Path.{_≡_};
 ghost use mathlib.Core.List.{[], _∷_, _++_};
 ghost use Prim.Native.Nat.{_≤_};
 ghost use lib.ListN.{length};

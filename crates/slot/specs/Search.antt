@@ -1,5 +1,5 @@
 -- The lowest entry of a list that passes a test, and what is done with its place. `A` is what the entries are.
-use Prim.Native.Nat.{ℕ, zero, suc}
+use Prim.Native.Nat.{zero, suc}
 use mathlib.Core.Bool.{Bool, true, false}
 use mathlib.Core.List.{List, [], _∷_}
 use lib.ListN.{set, getD}

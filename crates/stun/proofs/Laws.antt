@@ -8,14 +8,12 @@ use lib.Seq.{take-at, take-all, set-at}
 use lib.Dec.{leb, eqb}
 use native.Mathlib.Omega.{arith}
 use borrow.Author.Tests.{le-leb, leb-true, eq-eqb, ne-eqb}
-use Rattle.wire.specs.Wire.{num}
 use Rattle.choice.specs.Choice.{pick}
 use Rattle.stun.specs.declared.message.Attribute.{Attribute}
 use Rattle.stun.specs.declared.message.Step.{Step}
 use Rattle.stun.specs.declared.message.Step.the-variants.{One, End, Short}
 use Rattle.stun.specs.declared.message.Reading.{Reading}
 use Rattle.stun.specs.declared.message.Reading.the-variants as Read
-use Rattle.stun.specs.declared.message.ValuePlace.{ValuePlace}
 use Rattle.stun.specs.declared.message.ValuePlace.the-variants.{Value, Absent}
 use Rattle.stun.specs.declared.message.UnknownTypes.{UnknownTypes}
 use Rattle.stun.specs.declared.values.AddressValue.{AddressValue}

@@ -1,12 +1,11 @@
 -- The laws of numbers in network order and of XOR, over the width, and of a run of writes.
 use Prim.Native.Nat.{ℕ, zero, suc, _+_, _-_, _*_, _/_, _%_, _^_, _≤_, _<_}
-use mathlib.Core.Path.{_≡_, refl, sym, ap, ap₂, _∙_, subst}
+use mathlib.Core.Path.{_≡_, refl, sym, ap, ap₂, _∙_}
 use mathlib.Core.List.{List, [], _∷_, _++_, append-assoc, append-nil}
-use lib.ListN.{length, getD, take, drop, replicate, length-append, length-drop, length-replicate, drop-of-length-le}
+use lib.ListN.{length, take, drop, replicate, length-append, length-drop, length-replicate, drop-of-length-le}
 use lib.Seq.{getD-append-add, take-at, drop-at, drop-drop, take-all, take-length, sets, sets-eq}
 use native.Mathlib.Omega.{arith}
-use native.Mathlib.Nat.{suc-add, suc-mul, pow-suc, add-suc, add-zero, zero-add, zero-mul, add-assoc, mul-assoc, mul-comm, add-mul, div-div-eq-div-mul, mod-mod, mod-mod-of-dvd, mod-eq-of-lt, mod-lt, mod-one, div-one, pow-succ', dvd-mul-left, div-add-mod'}
-use native.Mathlib.Numerals.{add-one}
+use native.Mathlib.Nat.{suc-add, suc-mul, pow-suc, add-zero, zero-add, zero-mul, add-assoc, mul-assoc, mul-comm, add-mul, div-div-eq-div-mul, mod-mod, mod-eq-of-lt, mod-lt, mod-one, div-one, pow-succ', div-add-mod'}
 use lib.Arith.{mod-mul, digits-div, digits-mod, bin-ind}
 use lib.Bits.{bitXor, differ, xor-step, xor-self}
 use borrow.Rule.Slice.PartMut.{midOf, putMid}

@@ -1,5 +1,4 @@
 use mathlib.Core.Path.{refl}
-use Rattle.rules.specs.Inner.{Gives}
 use Rattle.data_rules.specs.Data.{relayFromPeer}
 use Rattle.rules.proofs.Laws.{gives-message}
 use borrow.Author.Needs.{needs}

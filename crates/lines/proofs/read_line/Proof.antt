@@ -1,4 +1,3 @@
-use native.Mathlib.Omega.{arith}
 use Rattle.lines.specs.Lines.{clientLine, peerLine}
 use Rattle.lines.proofs.Read.{line-long, line-short, line-no-tab, line-form, line-other}
 use borrow.Author.Needs.{needs}

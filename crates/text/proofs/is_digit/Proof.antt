@@ -1,5 +1,4 @@
 use mathlib.Core.Path.{_∙_}
-use native.Mathlib.Omega.{arith}
 use Rattle.text.proofs.Laws.{digit-low, digit-high}
 use borrow.Author.Needs.{needs}
 use Rattle.text.proofs.is_digit.Statement.{statement}

@@ -2,7 +2,7 @@ use Rattle.wire.proofs.Laws.{wrote-fill}
 use Prim.Native.Nat.{ℕ, _-_, _≤_}
 use mathlib.Core.Path.{_≡_, refl, ap, _∙_}
 use mathlib.Core.List.{List, _++_}
-use lib.ListN.{length, drop, set, replicate, length-set, length-replicate}
+use lib.ListN.{length, drop, set, replicate, length-set}
 use native.Mathlib.Omega.{arith}
 use borrow.Author.Fill.{fill-none, fill-more}
 use Rattle.wire.proofs.put_zeros.Statement.{statement}

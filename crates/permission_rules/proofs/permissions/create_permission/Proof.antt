@@ -1,6 +1,4 @@
-use native.Mathlib.Omega.{arith}
 use mathlib.Core.Path.{ap}
-use mathlib.Core.Bool.{Bool}
 use borrow.Author.Tests.{eq-eqb, ne-eqb}
 use Rattle.slot.specs.declared.Placed.{Placed}
 use Rattle.rules.specs.Change.{respond}
