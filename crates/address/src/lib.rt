@@ -1,4 +1,4 @@
-// Addresses, transport addresses, 5-tuples and transaction ids, and the tests of equality of the first three.
+// Addresses, transport addresses and 5-tuples with the tests of their equality, and transaction ids.
 use choice::both;
 ghost use mathlib.Core.Path.{_≡_};
 ghost use Rattle.address.specs.Address.{sameAddress, sameTransportAddress, sameFiveTuple};

@@ -81,7 +81,7 @@ fn allocated(call: ClientCall, port: u16, seconds: u32) -> Slot
     with_allocation(fresh_slot(), allocation)
 }
 
-// Was is the slot that the allocation would take.
+// An Allocate. Where it is answered with an error, the slot `was` is handed back as it is.
 pub fn allocate(s: &[u8], reply: &mut [u8], call: ClientCall, room: Room, was: Slot) -> Answer
     requires { ⌜ (20 ≤ length (now s)) × (1536 ≤ length (now reply)) × (call .time ≤ 2 ^ 40) ⌝ }
     ensures { λ r. ⌜ Answers (allocate call (now (s .entry)) room) was (now (reply .entry)) (now (reply .exit)) r ⌝ }

@@ -1,4 +1,4 @@
--- Texts one after another, and what it means that a text was put at a place.
+-- Texts one after another.
 use Prim.Native.Nat.{ℕ, suc, _+_}
 use mathlib.Core.List.{List, [], _∷_, _++_}
 

@@ -1,4 +1,4 @@
-// Allocate and Refresh, and the checks that the requests share.
+// What a client's call brings to the rules, and the checks that the requests share.
 use crate::answer::check;
 use crate::values::any_unknown;
 use address::FiveTuple;
@@ -36,7 +36,3 @@ pub fn own_code(s: &[u8], call: ClientCall, own: bool, slot: Slot, rest: u16) ->
         check(!own, 437, check(allocation.user != call.user, 441, rest)),
     )
 }
-
-// ---- Allocate
-
-// ---- Refresh

@@ -1,4 +1,4 @@
-// The tests of what a request carries, and the lifetime granted.
+// The tests of what a request carries.
 use address::Address;
 use stun::message::unknown_types;
 use stun::values::AddressValue;
