@@ -4,16 +4,16 @@ use interface::incoming::Call;
 use listing::Listed;
 use listing::list;
 use relay::relay_datagram;
-use relay::state::Bookkeeping;
 use rules::answer::Outcome;
 use slot::Slot;
+use state::Bookkeeping;
 ghost use mathlib.Core.Path.{_≡_};
 ghost use lib.ListN.{length, replicate};
 ghost use Rattle.choice.specs.Choice.{pick};
 ghost use Rattle.listing.specs.Listing.{Lists};
-ghost use Rattle.relay.specs.State.{state};
-ghost use Rattle.relay.specs.Outcomes.{outcomeOf};
-ghost use Rattle.relay.specs.Step.{act};
+ghost use Rattle.state.specs.State.{state};
+ghost use Rattle.state.specs.Outcomes.{outcomeOf};
+ghost use Rattle.state.specs.Step.{act};
 
 // The relay's entry over a table of the slot alone, 65 times or 63 times.
 pub(crate) fn not_sixty_four(

@@ -8,8 +8,6 @@ use address::Address;
 use address::FiveTuple;
 use address::TransportAddress;
 use relay::Held;
-use relay::state::Bookkeeping;
-use relay::state::fresh_bookkeeping;
 use rules::answer::Outcome;
 use slot::Allocation;
 use slot::Channel;
@@ -19,6 +17,8 @@ use slot::fresh_slot;
 use slot::with_allocation;
 use slot::with_channels;
 use slot::with_permissions;
+use state::Bookkeeping;
+use state::fresh_bookkeeping;
 
 pub(crate) fn empty() -> Held {
     let slots = [fresh_slot(); 64];

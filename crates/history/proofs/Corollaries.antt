@@ -8,7 +8,7 @@ use Rattle.address.specs.declared.Address.{Address}
 use Rattle.address.specs.declared.Address.the-variants.{V4, V6}
 use Rattle.address.specs.declared.FiveTuple.{FiveTuple}
 use Rattle.rules.specs.declared.answer.Outcome.the-variants.{Dropped}
-use Rattle.relay.specs.State.{State}
+use Rattle.state.specs.State.{State}
 use Rattle.history.specs.Counted.{Counted, allowed}
 use Rattle.history.specs.Events.{Event, Lived, counts, counted}
 use Rattle.history.specs.Statement.{GoesTo, Comes, To, Demand3From}

@@ -1,7 +1,7 @@
 -- Demand 3, of every list of calls.
 use mathlib.Core.Path.{_≡_, refl, sym, _∙_, ap}
 use mathlib.Core.List.{List, [], _∷_, _++_, map}
-use Rattle.relay.specs.State.{State, empty}
+use Rattle.state.specs.State.{State, empty}
 use Rattle.history.specs.Counted.{Counted}
 use Rattle.history.specs.Events.{Arrival, outcome, replied, run, Event, events, Happened, Lived, counted}
 use Rattle.history.specs.Statement.{Demand3From, Demand3}

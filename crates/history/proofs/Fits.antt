@@ -36,11 +36,11 @@ use Rattle.decisions.proofs.Accepted.{allocates, refreshes, permits, binds, gra
 use Rattle.interface.specs.declared.incoming.Call.{Call}
 use Rattle.interface.specs.declared.incoming.Call.the-variants.{Client, Peer}
 use Rattle.interface.specs.declared.incoming.FromClient.{FromClient}
-use Rattle.relay.specs.State.{State, empty, clockOf, atTime}
-use Rattle.relay.specs.Outcomes.{refuse, stateAfter}
+use Rattle.state.specs.State.{State, empty, clockOf, atTime}
+use Rattle.state.specs.Outcomes.{refuse, stateAfter}
 use Rattle.interface.specs.Refusals.{timeOf, lengths, refusal}
 use Rattle.decisions.specs.Decisions.{asRules, roomFor, onAsked, decided}
-use Rattle.relay.specs.Step.{done, accepted, act}
+use Rattle.state.specs.Step.{done, accepted, act}
 use Rattle.decisions.specs.Inner.{Ready}
 use Rattle.relay.proofs.Laws.{not-refused}
 use Rattle.client_reader.specs.Fields.{Bytes, AddressFits}

@@ -14,9 +14,9 @@ use Rattle.address.specs.declared.Address.the-variants.{V4, V6}
 use Rattle.text.specs.declared.Parsed.{Parsed}
 use Rattle.text.specs.Text.{digitValue, isHex, hexBytesOf}
 use Rattle.interface.specs.declared.incoming.Call.{Call}
-use Rattle.relay.specs.State.{State, empty}
-use Rattle.relay.specs.Outcomes.{Act, stateAfter}
-use Rattle.relay.specs.Step.{act}
+use Rattle.state.specs.State.{State, empty}
+use Rattle.state.specs.Outcomes.{Act, stateAfter}
+use Rattle.state.specs.Step.{act}
 use Rattle.lines.specs.Fields.{fieldEnd, isMore, rest, isNumber, valueOf, numberUpTo, isAddress, wordAt, addressOf}
 use Rattle.lines.specs.Inner.{NumberAt}
 use Rattle.lines.specs.Lines.{Line, bad, asks, callFromClient, callFromPeer, withDatagram, clientLine, peerLine, formOf, lineOf}

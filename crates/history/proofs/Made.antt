@@ -41,10 +41,10 @@ use Rattle.rules.proofs.Laws.{kept-not-written}
 use Rattle.decisions.proofs.Accepted.{allocates, refreshes, permits, binds, granted-range, granted-refresh-range}
 use Rattle.interface.specs.declared.incoming.Call.the-variants.{Client}
 use Rattle.interface.specs.declared.incoming.FromClient.{FromClient}
-use Rattle.relay.specs.State.{State, withSlots}
-use Rattle.relay.specs.Outcomes.{Act, accept, outcomeOf, replyAfter, stateAfter}
+use Rattle.state.specs.State.{State, withSlots}
+use Rattle.state.specs.Outcomes.{Act, accept, outcomeOf, replyAfter, stateAfter}
 use Rattle.decisions.specs.Decisions.{asRules, roomFor, onAsked}
-use Rattle.relay.specs.Step.{done}
+use Rattle.state.specs.Step.{done}
 use Rattle.client_reader.specs.Fields.{Bytes}
 use Rattle.history.specs.Events.{CallFits, countsBy}
 use Rattle.history.specs.Statement.{Live}

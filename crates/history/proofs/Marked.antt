@@ -27,11 +27,11 @@ use Rattle.permission_rules.specs.Permissions.{permitPeer, permitAll, createPer
 use Rattle.data_rules.specs.Data.{permitted, relayed, relayFromPeer}
 use Rattle.decisions.specs.Client.{askedBy}
 use Rattle.interface.specs.declared.incoming.Call.{Call}
-use Rattle.relay.specs.State.{State, state, empty}
-use Rattle.relay.specs.Outcomes.{Act, accept, stateAfter}
+use Rattle.state.specs.State.{State, state, empty}
+use Rattle.state.specs.Outcomes.{Act, accept, stateAfter}
 use Rattle.interface.specs.Refusals.{clientDatagram, peerDatagram, refusal}
 use Rattle.decisions.specs.Decisions.{portsHeld, decided}
-use Rattle.relay.specs.Step.{accepted, act}
+use Rattle.state.specs.Step.{accepted, act}
 
 -- ---- The calls, each with its datagram
 

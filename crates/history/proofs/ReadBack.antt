@@ -49,11 +49,11 @@ use Rattle.interface.specs.declared.incoming.Call.{Call}
 use Rattle.interface.specs.declared.incoming.Call.the-variants.{Client, Peer}
 use Rattle.interface.specs.declared.incoming.FromClient.{FromClient}
 use Rattle.interface.specs.declared.incoming.FromPeer.{FromPeer}
-use Rattle.relay.specs.State.{State, clockOf, atTime}
-use Rattle.relay.specs.Outcomes.{Act, refuse, accept, outcomeOf, stateAfter, replyAfter}
+use Rattle.state.specs.State.{State, clockOf, atTime}
+use Rattle.state.specs.Outcomes.{Act, refuse, accept, outcomeOf, stateAfter, replyAfter}
 use Rattle.interface.specs.Refusals.{timeOf, lengths, refusal}
 use Rattle.decisions.specs.Decisions.{asRules, roomFor, onAsked, decided}
-use Rattle.relay.specs.Step.{done, accepted, act}
+use Rattle.state.specs.Step.{done, accepted, act}
 use Rattle.decisions.specs.Inner.{Ready}
 use Rattle.relay.proofs.Laws.{not-refused}
 use Rattle.decisions.proofs.Laws.{decided-writes}

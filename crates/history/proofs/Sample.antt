@@ -25,10 +25,10 @@ use Rattle.allocation_rules.specs.Allocations.{allocateCode, allocated, allocat
 use Rattle.permission_rules.specs.Permissions.{permitPeer, permitAll, createPermissionCode, createPermission}
 use Rattle.data_rules.specs.Data.{permitted, relayed, relayFromPeer}
 use Rattle.decisions.specs.Client.{askedBy}
-use Rattle.relay.specs.State.{State, empty}
+use Rattle.state.specs.State.{State, empty}
 use Rattle.interface.specs.Refusals.{clientDatagram, peerDatagram, refusal}
 use Rattle.decisions.specs.Decisions.{portsHeld, decided}
-use Rattle.relay.specs.Step.{accepted, act}
+use Rattle.state.specs.Step.{accepted, act}
 use Rattle.client_reader.specs.Fields.{Bytes}
 use Rattle.client_reader.specs.Inner.{allBelow}
 use Rattle.client_reader.proofs.Types.{all-below}

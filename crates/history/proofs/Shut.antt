@@ -9,9 +9,9 @@ use Rattle.address.specs.declared.Address.{Address}
 use Rattle.address.specs.declared.Address.the-variants.{V4}
 use Rattle.address.specs.declared.FiveTuple.{FiveTuple}
 use Rattle.rules.specs.declared.answer.Outcome.the-variants.{Refused}
-use Rattle.relay.specs.State.{State, clockOf}
+use Rattle.state.specs.State.{State, clockOf}
 use Rattle.interface.specs.Refusals.{timeOf}
-use Rattle.relay.specs.Outcomes.{Act, outcomeOf, replyAfter, stateAfter}
+use Rattle.state.specs.Outcomes.{Act, outcomeOf, replyAfter, stateAfter}
 use Rattle.table.specs.Table.{slotAt}
 use Rattle.history.specs.Counted.{Counted, gave, kept, allowed, nothing}
 use Rattle.history.specs.Events.{Arrival, acts, next, Event, Happened, Lived, countsBy, counts, counted}

@@ -22,12 +22,12 @@ use Rattle.decisions.proofs.Sizes.{Fits, allocate-fits, refresh-fits, create-pe
 use Rattle.interface.specs.declared.incoming.Call.{Call}
 use Rattle.interface.specs.declared.incoming.Call.the-variants.{Client, Peer}
 use Rattle.interface.specs.declared.incoming.FromClient.{FromClient}
-use Rattle.relay.specs.State.{State, clockOf, atTime}
-use Rattle.relay.specs.Outcomes.{Act, refuse, accept, outcomeOf}
+use Rattle.state.specs.State.{State, clockOf, atTime}
+use Rattle.state.specs.Outcomes.{Act, refuse, accept, outcomeOf}
 use Rattle.interface.specs.Refusals.{timeOf, lengths, refusal}
 use Rattle.interface.specs.Sending.{sent}
 use Rattle.decisions.specs.Decisions.{asRules, roomFor, onAsked, decided}
-use Rattle.relay.specs.Step.{done, accepted, act}
+use Rattle.state.specs.Step.{done, accepted, act}
 use Rattle.relay.proofs.Laws.{none-of}
 
 -- what an act gives out fits

@@ -10,7 +10,7 @@ use Rattle.slot.specs.declared.Permission.{Permission}
 use Rattle.slot.specs.declared.Channel.{Channel}
 use Rattle.slot.specs.declared.Slot.{Slot}
 use Rattle.table.specs.Table.{slotAt}
-use Rattle.relay.specs.State.{State, clockOf}
+use Rattle.state.specs.State.{State, clockOf}
 use Rattle.history.specs.Counted.{Counted, gave, kept, allowed, nothing}
 use Rattle.history.specs.Statement.{permissionAt, channelAt, Live, LiveChannel}
 use Rattle.history.proofs.Readings.{Given, Granted, Allowed, given-port, given-holder}

@@ -32,11 +32,11 @@ use Rattle.decisions.specs.Client.{askedBy}
 use Rattle.interface.specs.declared.incoming.Call.{Call}
 use Rattle.interface.specs.declared.incoming.Call.the-variants.{Client, Peer}
 use Rattle.interface.specs.declared.incoming.FromPeer.{FromPeer}
-use Rattle.relay.specs.State.{State, empty, clockOf, atTime}
-use Rattle.relay.specs.Outcomes.{Act, refuse, accept, outcomeOf, replyAfter, stateAfter}
+use Rattle.state.specs.State.{State, empty, clockOf, atTime}
+use Rattle.state.specs.Outcomes.{Act, refuse, accept, outcomeOf, replyAfter, stateAfter}
 use Rattle.interface.specs.Refusals.{timeOf, lengths, refusal}
 use Rattle.decisions.specs.Decisions.{onAsked, decided}
-use Rattle.relay.specs.Step.{done, accepted, act}
+use Rattle.state.specs.Step.{done, accepted, act}
 use Rattle.relay.proofs.Laws.{not-refused}
 use Rattle.history.specs.Counted.{Counted, nothing}
 use Rattle.client_reader.specs.Fields.{Bytes}

@@ -24,10 +24,10 @@ use Rattle.permission_rules.specs.Permissions.{permitPeer, permitAll, createPer
 use Rattle.data_rules.specs.Data.{permitted, relayed, relayFromPeer}
 use Rattle.decisions.specs.Client.{askedBy}
 use Rattle.interface.specs.declared.incoming.Call.{Call}
-use Rattle.relay.specs.State.{empty}
+use Rattle.state.specs.State.{empty}
 use Rattle.interface.specs.Refusals.{clientDatagram, refusal}
 use Rattle.decisions.specs.Decisions.{portsHeld, decided}
-use Rattle.relay.specs.Step.{accepted, act}
+use Rattle.state.specs.Step.{accepted, act}
 use Rattle.client_reader.specs.Fields.{Bytes}
 use Rattle.client_reader.specs.Reader.{messageIn}
 use Rattle.client_reader.specs.Inner.{allBelow, allocateFields, refreshFields, bareFields, fieldsOf, sameBytes, checked}

@@ -19,9 +19,9 @@ use Rattle.rules.specs.declared.answer.Outcome.the-variants.{Refused, Dropped, 
 use Rattle.interface.specs.declared.incoming.Call.{Call}
 use Rattle.interface.specs.declared.incoming.Call.the-variants.{Client, Peer}
 use Rattle.interface.specs.declared.incoming.FromClient.{FromClient}
-use Rattle.relay.specs.State.{State}
-use Rattle.relay.specs.Outcomes.{Act, outcomeOf, replyAfter, stateAfter}
-use Rattle.relay.specs.Step.{act, Stepped}
+use Rattle.state.specs.State.{State}
+use Rattle.state.specs.Outcomes.{Act, outcomeOf, replyAfter, stateAfter}
+use Rattle.state.specs.Step.{act, Stepped}
 use Rattle.client_reader.specs.declared.Message.{Message}
 use Rattle.client_reader.specs.declared.Message.the-variants.{AllocateSuccess, RefreshSuccess, BareSuccess, Error, UnknownAttributes, DataIndication, ChannelData, Nothing}
 use Rattle.client_reader.specs.Fields.{Bytes, IdFits, AddressFits}

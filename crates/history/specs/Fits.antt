@@ -7,7 +7,7 @@ use Rattle.slot.specs.declared.Permission.{Permission}
 use Rattle.slot.specs.declared.Channel.{Channel}
 use Rattle.slot.specs.declared.Slot.{Slot}
 use Rattle.table.specs.Table.{slotAt}
-use Rattle.relay.specs.State.{State, clockOf}
+use Rattle.state.specs.State.{State, clockOf}
 use Rattle.client_reader.specs.Fields.{AddressFits}
 use Rattle.history.specs.Events.{TransportFits}
 use Rattle.history.specs.Statement.{permissionAt, channelAt}

@@ -4,7 +4,7 @@ use mathlib.Core.Path.{_≡_}
 use mathlib.Core.List.{List, [], _∷_}
 use lib.ListN.{length, take}
 use Rattle.interface.specs.declared.incoming.Call.{Call}
-use Rattle.relay.specs.State.{State}
+use Rattle.state.specs.State.{State}
 use Rattle.interface.specs.Sending.{sent}
 use Rattle.script.specs.Answers.{answerOf, badAnswer}
 use Rattle.lines.specs.Lines.{Line, bad, asks, lineOf}

@@ -27,9 +27,9 @@ use Rattle.interface.specs.declared.incoming.Call.{Call}
 use Rattle.interface.specs.declared.incoming.Call.the-variants.{Client, Peer}
 use Rattle.interface.specs.declared.incoming.FromClient.{FromClient}
 use Rattle.interface.specs.declared.incoming.FromPeer.{FromPeer}
-use Rattle.relay.specs.State.{State}
+use Rattle.state.specs.State.{State}
 use Rattle.decisions.specs.Decisions.{asRules, roomFor}
-use Rattle.relay.specs.Step.{Stepped}
+use Rattle.state.specs.Step.{Stepped}
 use Rattle.client_reader.specs.declared.Message.{Message}
 use Rattle.client_reader.specs.declared.Message.the-variants.{AllocateSuccess, RefreshSuccess, BareSuccess, Error, UnknownAttributes, DataIndication, ChannelData}
 use Rattle.client_reader.specs.declared.ReadMessage.{ReadMessage}

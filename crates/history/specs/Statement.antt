@@ -16,7 +16,7 @@ use Rattle.table.specs.Table.{slotAt}
 use Rattle.rules.specs.declared.answer.Outcome.the-variants.{Refused, Dropped, ToClient}
 use Rattle.interface.specs.declared.incoming.Call.the-variants.{Peer}
 use Rattle.history.specs.Counted.{Counted, gave, kept, allowed}
-use Rattle.relay.specs.State.{State, empty, clockOf}
+use Rattle.state.specs.State.{State, empty, clockOf}
 use Rattle.history.specs.Events.{Arrival, Event, Lived, counted}
 
 -- ---- The table

@@ -10,7 +10,7 @@ use borrow.Author.Tests.{eqb-true, ltb-false, not-true, not-false}
 use Rattle.choice.specs.Choice.{pick}
 use Rattle.slot.specs.declared.Slot.{Slot}
 use Rattle.slot.specs.declared.Found.{Found}
-use Rattle.slot.specs.declared.Found.the-variants.{At, Nothing}
+use Rattle.slot.specs.declared.Found.the-variants.{Nothing}
 use Rattle.slot.specs.Search.{find, has}
 use Rattle.slot.specs.Slot.{holds, holdsPort}
 use Rattle.table.specs.Table.{inSlot, lapsed}
@@ -20,7 +20,6 @@ use Rattle.table.specs.declared.surveys.Survey.{Survey}
 use Rattle.table.proofs.Laws.{found-within, own-within, place-there}
 use Rattle.rules.specs.declared.answer.Answer.{Answer}
 use Rattle.rules.specs.declared.answer.Outcome.{Outcome}
-use Rattle.rules.specs.declared.answer.Outcome.the-variants.{Refused}
 use Rattle.decisions.specs.declared.client.Asked.{Asked}
 use Rattle.decisions.specs.declared.client.Asked.the-variants as Asked
 use Rattle.rules.specs.Change.{Out, Change, keep, write, outOf, outcomeOf, replyAfter}
@@ -30,17 +29,17 @@ use Rattle.rules.proofs.Laws.{kept-not-written}
 use Rattle.interface.specs.declared.incoming.Call.{Call}
 use Rattle.interface.specs.declared.incoming.Call.the-variants.{Client, Peer}
 use Rattle.interface.specs.declared.incoming.FromClient.{FromClient}
-use Rattle.interface.specs.declared.refusals.Lengths.{Lengths}
 use Rattle.decisions.specs.declared.Seen.{Seen}
-use Rattle.relay.specs.declared.state.Bookkeeping.{Bookkeeping}
-use Rattle.relay.specs.State.{State, state, freshBookkeeping, atClock, atTime, withSlots}
-use Rattle.relay.specs.Outcomes.{accept, Does}
+use Rattle.state.specs.declared.Bookkeeping.{Bookkeeping}
+use Rattle.state.specs.State.{state, freshBookkeeping, atClock, atTime, withSlots}
+use Rattle.state.specs.Outcomes.{Does}
 use Rattle.interface.specs.Refusals.{timeOf, lengths, refusal}
 use Rattle.decisions.specs.Decisions.{onAsked, decided}
-use Rattle.relay.specs.Step.{done, accepted, act, Stepped}
+use Rattle.state.specs.Step.{done, accepted}
 use Rattle.decisions.specs.Inner.{Ready, askedFor, wantedBy, saw, placeFor, placeIn, unwritten}
 use Rattle.relay.specs.Inner.{Saw, WroteBack, Answered}
 use Rattle.decisions.proofs.Laws.{decided-writes}
+use Rattle.state.proofs.Laws.{kept-done, written-done, does}
 
 -- where the checks give no number, this one did not apply, and the rest give none
 pub none-of : (b : Bool) (c rest : ℕ) → pick b (suc c) rest ≡ 0 → (b ≡ false) × (rest ≡ 0)
@@ -80,29 +79,6 @@ not-refused clock slots s reply (Peer c) e =
       ready = record { room = ltb-false (length reply) 1536 (a .0); short = ltb-false 1500 (length s) (d .0) };
       not-before = ltb-false (c .time) clock (i .0);
     }
-
--- ---- The step
-
--- refused: everything as it was
-pub refused-step : (slots : List Slot) (kept : Bookkeeping) (call : Call) (s reply : List ℕ) {l : Lengths} {number : ℕ} → l ≡ lengths (length slots) (length s) (length reply)
-    → number ≡ refusal (kept .clock) l call → not (eqb number 0) ≡ true → Stepped (state slots kept) call s (Refused number) (state slots kept) reply reply
-unfolding act
-refused-step slots kept call s reply {l} {number} e f n =
-    let q : number ≡ refusal (kept .clock) (lengths (length slots) (length s) (length reply)) call = f ∙ ap (λ (x : Lengths). refusal (kept .clock) x call) e in
-    let shut : eqb (refusal (kept .clock) (lengths (length slots) (length s) (length reply)) call) 0 ≡ false = ap (λ (x : ℕ). eqb x 0) (sym q) ∙ not-true (eqb number 0) n in
-    record { outcome-is = rw (shut) (ap Refused q); state-is = rw (shut); reply-is = rw (shut) }
-
--- a call that is not refused: it is accepted
-pub none-refused : (slots : List Slot) (kept : Bookkeeping) (call : Call) (s reply : List ℕ) {l : Lengths} {number : ℕ} → l ≡ lengths (length slots) (length s) (length reply)
-    → number ≡ refusal (kept .clock) l call → not (eqb number 0) ≡ false → refusal (kept .clock) (lengths (length slots) (length s) (length reply)) call ≡ 0
-none-refused slots kept call s reply {l} {number} e f n =
-    ap (λ (x : Lengths). refusal (kept .clock) x call) (sym e) ∙ sym f ∙ eqb-true number 0 (not-false (eqb number 0) n)
-
-pub accepted-step : (slots : List Slot) (kept : Bookkeeping) (call : Call) (s reply : List ℕ) {outcome : Outcome} {after : State} {reply′ : List ℕ}
-    → refusal (kept .clock) (lengths (length slots) (length s) (length reply)) call ≡ 0 → Does (accepted (state slots kept) call s) (state slots kept) outcome after reply reply′
-    → Stepped (state slots kept) call s outcome after reply reply′
-unfolding act
-accepted-step slots kept call s reply e w = rw e w
 
 -- the look that a call asks for is one over its table
 pub looked-for : (call : Call) (slots : List Slot) (s : List ℕ) {asked : Asked} {wanted : Wanted} {survey : Survey} {seen : Seen} → asked ≡ askedFor call s → wanted ≡ wantedBy call asked
@@ -165,23 +141,8 @@ writing : (change : Change) {b : Bool} → b ≡ writes change → not b ≡ fal
 writing (keep out) e n = absurd (false≢true (sym n ∙ ap not e))
 writing (write slot out) e n = record { slot = slot; out = out; is = refl }
 
--- the state after the act: the clock is set, and the slot where it is written
-kept-done : (st : State) (found : Found) (out : Out) → done st found (keep out) ≡ done st Nothing (keep out)
-kept-done st (At k) out = refl
-kept-done st Nothing out = refl
-
-written-done : (st : State) (found : Found) {k : ℕ} (slot : Slot) (out : Out) → has found ≡ true → k ≡ placeOf found
-    → done st found (write slot out) ≡ done st (At k) (write slot out)
-written-done st (At i) slot out h e = ap (λ (j : ℕ). done st (At j) (write slot out)) (sym e)
-written-done st Nothing slot out h e = absurd (false≢true h)
-
 module _ (slots : List Slot) (kept : Bookkeeping) (call : Call) (s reply : List ℕ) (asked : Asked) {reply′ : List ℕ} {survey : Survey} {own : Slot} {answer : Answer}
     (looked : Looked slots (wantedBy call asked) survey) (w : Answers (decided call s slots .change) own reply reply′ answer) where
-  -- what is given out, once it is known what the act is
-  does : {after : State} {outcome : Outcome} (next : State) (out : Out) → accepted (state slots kept) call s ≡ accept next out
-      → outcome ≡ outcomeOf out → after ≡ next → reply′ ≡ replyAfter reply out → Does (accepted (state slots kept) call s) (state slots kept) outcome after reply reply′
-  does {after} {outcome} next out d o n r = record { outcome-is = rw d o; state-is = rw d n; reply-is = rw d r }
-
   -- where nothing is written
   kept-step : not (answer .writes) ≡ true → Does (accepted (state slots kept) call s) (state slots kept) (answer .outcome) (state slots (atClock (timeOf call) kept)) reply reply′
   unfolding accepted

@@ -10,6 +10,7 @@ use denote.Laws.{Is}
 use denote.Struct.Laws as SL
 use Rattle.walk.proofs.Walk.{Row, Typed, struct-row, enum-row, array-row, array-into, map-twice}
 use Rattle.table.proofs.Rows.{slot-row}
+use Rattle.state.proofs.Rows.{bookkeeping-row}
 use Rattle.slot.specs.declared.Slot.{Slot}
 use Rattle.slot.proofs.Slot as Slot-t
 use Rattle.slot.proofs.Slot.Laws as Slot-l
@@ -20,9 +21,8 @@ use Rattle.rules.proofs.answer.Outcome as Outcome-t
 use Rattle.rules.proofs.answer.Outcome.Laws as Outcome-l
 use Rattle.interface.proofs.incoming.Call as Call-t
 use Rattle.interface.proofs.incoming.Call.Laws as Call-l
-use Rattle.relay.specs.declared.state.Bookkeeping.{Bookkeeping}
-use Rattle.relay.proofs.state.Bookkeeping as Bookkeeping-t
-use Rattle.relay.proofs.state.Bookkeeping.Laws as Bookkeeping-l
+use Rattle.state.specs.declared.Bookkeeping.{Bookkeeping}
+use Rattle.state.proofs.Bookkeeping as Bookkeeping-t
 use Rattle.interface.proofs.refusals.Lengths as Lengths-t
 use Rattle.interface.proofs.refusals.Lengths.Laws as Lengths-l
 use Rattle.decisions.proofs.Seen as Seen-t
@@ -38,12 +38,6 @@ call-row = enum-row Call-t.the-type Call-l.the-laws Call-l.the-plain tt
 
 pub call-typed : {M : Type 1} (𝓤 : URA M) (H : Heap 𝓤) (A : Atoms 𝓤) → Typed 𝓤 H A call-row Call-l.mir
 call-typed 𝓤 H A W x is = call-row .lawful 𝓤 H A W .typed x _ is .0
-
-abbrev pub bookkeeping-row : Row Bookkeeping-t.the-row
-bookkeeping-row = struct-row Bookkeeping-t.the-type Bookkeeping-l.the-laws Bookkeeping-l.the-plain
-
-pub bookkeeping-typed : {M : Type 1} (𝓤 : URA M) (H : Heap 𝓤) (A : Atoms 𝓤) → Typed 𝓤 H A bookkeeping-row Bookkeeping-l.mir
-bookkeeping-typed 𝓤 H A W x is = bookkeeping-row .lawful 𝓤 H A W .typed x _ is .0
 
 abbrev pub lengths-row : Row Lengths-t.the-row
 lengths-row = struct-row Lengths-t.the-type Lengths-l.the-laws Lengths-l.the-plain

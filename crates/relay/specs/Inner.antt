@@ -10,11 +10,11 @@ use Rattle.rules.specs.declared.answer.Answer.{Answer}
 use Rattle.rules.specs.declared.answer.Outcome.{Outcome}
 use Rattle.interface.specs.declared.incoming.Call.{Call}
 use Rattle.decisions.specs.declared.Seen.{Seen}
-use Rattle.relay.specs.declared.state.Bookkeeping.{Bookkeeping}
-use Rattle.relay.specs.State.{state, atClock}
-use Rattle.relay.specs.Outcomes.{Does}
+use Rattle.state.specs.declared.Bookkeeping.{Bookkeeping}
+use Rattle.state.specs.State.{state, atClock}
+use Rattle.state.specs.Outcomes.{Does}
 use Rattle.interface.specs.Refusals.{timeOf}
-use Rattle.relay.specs.Step.{accepted}
+use Rattle.state.specs.Step.{accepted}
 use Rattle.decisions.specs.Inner.{askedFor, wantedBy, placeIn}
 
 -- what the look over the slots says for a call

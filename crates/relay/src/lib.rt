@@ -33,12 +33,10 @@ ghost use Prim.Native.Nat.{_<_};
 ghost use lib.ListN.{length};
 ghost use Rattle.slot.specs.Search.{atOr, has};
 ghost use Rattle.slot.specs.Slot.{freshSlot};
-ghost use Rattle.relay.specs.State.{state};
-ghost use Rattle.relay.specs.Step.{Stepped};
+ghost use Rattle.state.specs.State.{state};
+ghost use Rattle.state.specs.Step.{Stepped};
 ghost use Rattle.decisions.specs.Inner.{Ready, UserFits, isData, placeIn};
 ghost use Rattle.relay.specs.Inner.{Saw, WroteBack, Answered};
-
-pub mod state;
 
 // What is asked, and one look over the slots.
 fn look_for(slots: &[Slot], datagram: &[u8], call: Call) -> Seen

@@ -13,9 +13,9 @@ use Rattle.rules.specs.declared.answer.Outcome.{Outcome}
 use Rattle.rules.specs.declared.answer.Outcome.the-variants.{Refused, Dropped, ToClient, ToPeer}
 use Rattle.messages.specs.Inner.{Sent}
 use Rattle.interface.specs.declared.incoming.Call.{Call}
-use Rattle.relay.specs.State.{State}
-use Rattle.relay.specs.Outcomes.{stateAfter}
-use Rattle.relay.specs.Step.{act, Stepped}
+use Rattle.state.specs.State.{State}
+use Rattle.state.specs.Outcomes.{stateAfter}
+use Rattle.state.specs.Step.{act, Stepped}
 use Rattle.interface.specs.Sending.{sent}
 use Rattle.lines.specs.declared.ReadLine.{ReadLine}
 use Rattle.script.specs.Answers.{answerOf, badAnswer}

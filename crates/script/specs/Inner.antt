@@ -8,9 +8,9 @@ use Rattle.messages.specs.Inner.{Sent}
 use Rattle.rules.specs.declared.answer.Outcome.{Outcome}
 use Rattle.rules.specs.declared.answer.Outcome.the-variants.{Refused, Dropped, ToClient, ToPeer}
 use Rattle.interface.specs.declared.incoming.Call.{Call}
-use Rattle.relay.specs.State.{State}
-use Rattle.relay.specs.Outcomes.{replyAfter, stateAfter}
-use Rattle.relay.specs.Step.{act}
+use Rattle.state.specs.State.{State}
+use Rattle.state.specs.Outcomes.{replyAfter, stateAfter}
+use Rattle.state.specs.Step.{act}
 use Rattle.script.specs.Run.{shown}
 
 -- ---- A call

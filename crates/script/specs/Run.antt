@@ -6,9 +6,9 @@ use lib.Dec.{leb, ltb}
 use lib.ListN.{length, take, drop, replicate}
 use Rattle.choice.specs.Choice.{pick, both}
 use Rattle.interface.specs.declared.incoming.Call.{Call}
-use Rattle.relay.specs.State.{State}
-use Rattle.relay.specs.Outcomes.{Act, outcomeOf, replyAfter, stateAfter}
-use Rattle.relay.specs.Step.{act}
+use Rattle.state.specs.State.{State}
+use Rattle.state.specs.Outcomes.{Act, outcomeOf, replyAfter, stateAfter}
+use Rattle.state.specs.Step.{act}
 use Rattle.interface.specs.Sending.{sent}
 use Rattle.script.specs.Answers.{answerOf, badAnswer}
 use Rattle.lines.specs.Lines.{Line, bad, asks}

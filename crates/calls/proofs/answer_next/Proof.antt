@@ -3,8 +3,8 @@ use Rattle.walk.proofs.Pre.{ℕ, _-_, ftrue, flft, SProp, ent, emp, via, fst∗
 use Rattle.walk.proofs.Walk.{uint-row, bool-row, ref, asks-none, Of, tokens, calls-any, calls-value, out, out-room, guards, tells-none, says-none, framed-calls, finish}
 use Rattle.walk.proofs.Lends.{lend-slice, back-slice, lend-ref, back-ref, show-slice, hide-slice, calls-lent}
 use Rattle.calls.proofs.Rows.{window-row, window-typed}
-use Rattle.relay.specs.declared.state.Bookkeeping.{Bookkeeping}
-use Rattle.relay.proofs.state.Bookkeeping as Bookkeeping-t
+use Rattle.state.specs.declared.Bookkeeping.{Bookkeeping}
+use Rattle.state.proofs.Bookkeeping as Bookkeeping-t
 use Rattle.slot.specs.declared.Slot.{Slot}
 use Rattle.slot.proofs.Slot as Slot-t
 use Rattle.calls.specs.declared.Window.{Window}

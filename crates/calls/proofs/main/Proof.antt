@@ -3,20 +3,20 @@ use Rattle.walk.proofs.Pre.{ftrue, SProp, ent, emp, via, fst∗, id⊢, Lfts, S
 use Rattle.walk.proofs.Walk.{uint-row, unit-row, bool-row, ref, shown, asks-none, array-row, is-repeat, repeats, big-lit, Of, calls-any, calls-value, out, tells-none, says-none, framed-calls, finish}
 use Rattle.walk.proofs.Lends.{lend-local-at, back-local-at, lend-array-at, back-array-at, show-array-at, hide-array-at}
 use denote.Struct.Laws as SL
-use Rattle.relay.proofs.Rows.{bookkeeping-row, bookkeeping-typed}
+use Rattle.state.proofs.Rows.{bookkeeping-row, bookkeeping-typed}
 use Rattle.table.proofs.Rows.{slot-row, slot-typed}
-use Rattle.relay.specs.declared.state.Bookkeeping.{Bookkeeping}
-use Rattle.relay.proofs.state.Bookkeeping as Bookkeeping-t
-use Rattle.relay.proofs.state.Bookkeeping.Laws as Bookkeeping-l
+use Rattle.state.specs.declared.Bookkeeping.{Bookkeeping}
+use Rattle.state.proofs.Bookkeeping as Bookkeeping-t
+use Rattle.state.proofs.Bookkeeping.Laws as Bookkeeping-l
 use Rattle.slot.specs.declared.Slot.{Slot}
 use Rattle.slot.proofs.fresh_slot as fresh-slot
 use Rattle.slot.proofs.fresh_slot.Symbol as fresh-slot-def
 use Rattle.slot.proofs.fresh_slot.Symbol.{name as #slot·fresh-slot}
 use Rattle.slot.proofs.fresh_slot.Met as fresh-slot-thm
-use Rattle.relay.proofs.state.fresh_bookkeeping as fresh-bookkeeping
-use Rattle.relay.proofs.state.fresh_bookkeeping.Symbol as fresh-bookkeeping-def
-use Rattle.relay.proofs.state.fresh_bookkeeping.Symbol.{name as #relay·fresh-bookkeeping}
-use Rattle.relay.proofs.state.fresh_bookkeeping.Met as fresh-bookkeeping-thm
+use Rattle.state.proofs.fresh_bookkeeping as fresh-bookkeeping
+use Rattle.state.proofs.fresh_bookkeeping.Symbol as fresh-bookkeeping-def
+use Rattle.state.proofs.fresh_bookkeeping.Symbol.{name as #state·fresh-bookkeeping}
+use Rattle.state.proofs.fresh_bookkeeping.Met as fresh-bookkeeping-thm
 use Rattle.calls.proofs.serve as serve
 use Rattle.calls.proofs.serve.Symbol as serve-def
 use Rattle.calls.proofs.serve.Symbol.{name as #calls·serve}
@@ -52,7 +52,7 @@ module _ {M : Type 1} (𝓤 : URA M) (H : Heap 𝓤) (A : Atoms 𝓤) (W : Given
       nothing ! $ frame ! $
       nothing ! $ frame ! $ owned ! Nothing (Is Nothing) (unit-row .makes 𝓤 H A W) r _ is $ done !
 
-  module _ (C : Calls 𝓤 H) (Λ : Loops 𝓤 H) (fm : FmC 𝓤 H (W .laws) C) (known-fresh-slot : Triple 𝓤 (C #slot·fresh-slot) (Of 𝓤 H A fresh-slot.ended (fresh-slot.clauses 𝓤 H A mem run))) (known-fresh-bookkeeping : Triple 𝓤 (C #relay·fresh-bookkeeping) (Of 𝓤 H A fresh-bookkeeping.ended (fresh-bookkeeping.clauses 𝓤 H A mem run))) (known-serve : Triple 𝓤 (C #calls·serve) (Of 𝓤 H A serve.ended (serve.clauses 𝓤 H A mem run))) (known-write-listing : Triple 𝓤 (C #calls·write-listing) (Of 𝓤 H A write-listing.ended (write-listing.clauses 𝓤 H A mem run))) where
+  module _ (C : Calls 𝓤 H) (Λ : Loops 𝓤 H) (fm : FmC 𝓤 H (W .laws) C) (known-fresh-slot : Triple 𝓤 (C #slot·fresh-slot) (Of 𝓤 H A fresh-slot.ended (fresh-slot.clauses 𝓤 H A mem run))) (known-fresh-bookkeeping : Triple 𝓤 (C #state·fresh-bookkeeping) (Of 𝓤 H A fresh-bookkeeping.ended (fresh-bookkeeping.clauses 𝓤 H A mem run))) (known-serve : Triple 𝓤 (C #calls·serve) (Of 𝓤 H A serve.ended (serve.clauses 𝓤 H A mem run))) (known-write-listing : Triple 𝓤 (C #calls·write-listing) (Of 𝓤 H A write-listing.ended (write-listing.clauses 𝓤 H A mem run))) where
     walk : ent 𝓤 (onEntry 𝓤 H A main.signature κs qs a at) (WpFn 𝓤 H C Λ code.function [] Post)
     walk =
         qed W (‵ ftrue ∷ ‵ (owns [] a at) ∷ []) ∵
@@ -126,6 +126,6 @@ main-spec 𝓤 H 𝓜 𝓖 𝓡 =
     (λ κs qs bounds a g are. via 𝓤 _ (fst∗ 𝓤 _ (emp 𝓤))
     (walk 𝓤 H A W mem run κs qs a C Λ (framed-calls 𝓤 H 𝓜 𝓖 𝓡 code.env)
     (cited 𝓤 H (Of 𝓤 H A fresh-slot.ended (fresh-slot.clauses 𝓤 H A mem run)) 𝓜 𝓡 code.env #slot·fresh-slot fresh-slot-def.routine code.calls-slot·fresh-slot (fresh-slot-thm.met 𝓤 H 𝓜 𝓖 𝓡))
-    (cited 𝓤 H (Of 𝓤 H A fresh-bookkeeping.ended (fresh-bookkeeping.clauses 𝓤 H A mem run)) 𝓜 𝓡 code.env #relay·fresh-bookkeeping fresh-bookkeeping-def.routine code.calls-relay·state·fresh-bookkeeping (fresh-bookkeeping-thm.met 𝓤 H 𝓜 𝓖 𝓡))
+    (cited 𝓤 H (Of 𝓤 H A fresh-bookkeeping.ended (fresh-bookkeeping.clauses 𝓤 H A mem run)) 𝓜 𝓡 code.env #state·fresh-bookkeeping fresh-bookkeeping-def.routine code.calls-state·fresh-bookkeeping (fresh-bookkeeping-thm.met 𝓤 H 𝓜 𝓖 𝓡))
     (cited 𝓤 H (Of 𝓤 H A serve.ended (serve.clauses 𝓤 H A mem run)) 𝓜 𝓡 code.env #calls·serve serve-def.routine code.calls-calls·serve (serve-thm.met 𝓤 H 𝓜 𝓖 𝓡))
     (cited 𝓤 H (Of 𝓤 H A write-listing.ended (write-listing.clauses 𝓤 H A mem run)) 𝓜 𝓡 code.env #calls·write-listing write-listing-def.routine code.calls-calls·write-listing (write-listing-thm.met 𝓤 H 𝓜 𝓖 𝓡)))))

@@ -2,10 +2,11 @@
 use Rattle.walk.proofs.Pre.{ℕ, _-_, ftrue, fat, flft, SProp, ent, emp, via, fst∗, id⊢, Lfts, Shares, Fun, givenOf, tables, Array, u8, ArrayOf, yes, Is, lone, owns, plain, sliceVal, MutSlice, Room, slice-vals, mut-slice-tells, ShrSlice, shr-slice-tells, owned, nothing, onEntry, Args, Vals, Triple, cited, says, Stays, stay-slice, stay-none, walkOf, goes-slice, goes-none, ends-at, walked, stay-none-slice, goes-none-slice, stay-dropped, goes-dropped, Atoms, fullShare, URA, lit<, length, [], _∷_, List, refl, _≡_, named, Val, vptr, Memory, Routine, Heap, Calls, Loops, WpFn, FmC, Given, feqL, ‵, _⊛_, ⋆, _$_, _∵_, !, qed, by, move, drop, split, join, rewrite, fsplit, fjoin, suffices, frame, done, keep, Item, whole, sub, look-in, agg, look, init, stop, hop, fld, from, load, lit, of-opd, assigns, returns, enter, alloc1, alloc0, params1, pass1, pass0, free0, and-then, no-more, land, addr}
 use Rattle.walk.proofs.Walk.{ref, asks-none, array-row, Of, tokens, calls-any, out, framed-calls, finish}
 use Rattle.walk.proofs.Lends.{lend-slice, back-slice, copy-slice, lend-local-at, back-local-at, lend-array-at, back-array-at}
-use Rattle.relay.proofs.Rows.{call-row, call-typed, bookkeeping-row, bookkeeping-typed, outcome-row, outcome-typed, held-row, held-typed, held, table-same, is-held}
+use Rattle.relay.proofs.Rows.{call-row, call-typed, outcome-row, outcome-typed, held-row, held-typed, held, table-same, is-held}
+use Rattle.state.proofs.Rows.{bookkeeping-row, bookkeeping-typed}
 use Rattle.table.proofs.Rows.{slot-row}
-use Rattle.relay.specs.declared.state.Bookkeeping.{Bookkeeping}
-use Rattle.relay.proofs.state.Bookkeeping as Bookkeeping-t
+use Rattle.state.specs.declared.Bookkeeping.{Bookkeeping}
+use Rattle.state.proofs.Bookkeeping as Bookkeeping-t
 use Rattle.interface.specs.declared.incoming.Call.{Call}
 use Rattle.interface.proofs.incoming.Call as Call-t
 use Rattle.relay.specs.declared.Held.{Held}
@@ -17,8 +18,8 @@ use Rattle.relay.proofs.relay_datagram as relay-datagram
 use Rattle.relay.proofs.relay_datagram.Symbol as relay-datagram-def
 use Rattle.relay.proofs.relay_datagram.Symbol.{name as #relay·relay-datagram}
 use Rattle.relay.proofs.relay_datagram.Met as relay-datagram-thm
-use Rattle.relay.specs.State.{state}
-use Rattle.relay.specs.Step.{Stepped}
+use Rattle.state.specs.State.{state}
+use Rattle.state.specs.Step.{Stepped}
 use Rattle.relay.proofs.held_datagram.Key.{name as #relay·held-datagram}
 use Rattle.relay.proofs.held_datagram as held-datagram
 use Rattle.relay.proofs.held_datagram.Statement as stated

@@ -5,10 +5,11 @@ use Rattle.walk.proofs.Lends.{lend-slice, back-slice, lend-ref, back-ref, copy-
 use Rattle.walk.proofs.Whole.{val-look, val-shut}
 use denote.Struct.Laws as SL
 use denote.Enum.Laws as EL
-use Rattle.relay.proofs.Rows.{call-row, call-typed, bookkeeping-row, lengths-row, lengths-typed, outcome-row, outcome-typed}
-use Rattle.relay.specs.declared.state.Bookkeeping.{Bookkeeping}
-use Rattle.relay.proofs.state.Bookkeeping as Bookkeeping-t
-use Rattle.relay.proofs.state.Bookkeeping.Laws as Bookkeeping-l
+use Rattle.relay.proofs.Rows.{call-row, call-typed, lengths-row, lengths-typed, outcome-row, outcome-typed}
+use Rattle.state.proofs.Rows.{bookkeeping-row}
+use Rattle.state.specs.declared.Bookkeeping.{Bookkeeping}
+use Rattle.state.proofs.Bookkeeping as Bookkeeping-t
+use Rattle.state.proofs.Bookkeeping.Laws as Bookkeeping-l
 use Rattle.interface.specs.declared.incoming.Call.{Call}
 use Rattle.interface.proofs.incoming.Call as Call-t
 use Rattle.interface.specs.declared.refusals.Lengths.{Lengths}
@@ -30,17 +31,18 @@ use Rattle.interface.proofs.incoming.time_of as time-of
 use Rattle.interface.proofs.incoming.time_of.Symbol as time-of-def
 use Rattle.interface.proofs.incoming.time_of.Symbol.{name as #interface·time-of}
 use Rattle.interface.proofs.incoming.time_of.Met as time-of-thm
-use Rattle.relay.proofs.state.set_clock as set-clock
-use Rattle.relay.proofs.state.set_clock.Symbol as set-clock-def
-use Rattle.relay.proofs.state.set_clock.Symbol.{name as #relay·set-clock}
-use Rattle.relay.proofs.state.set_clock.Met as set-clock-thm
+use Rattle.state.proofs.set_clock as set-clock
+use Rattle.state.proofs.set_clock.Symbol as set-clock-def
+use Rattle.state.proofs.set_clock.Symbol.{name as #state·set-clock}
+use Rattle.state.proofs.set_clock.Met as set-clock-thm
 use Rattle.relay.proofs.accept_call as accept-call
 use Rattle.relay.proofs.accept_call.Symbol as accept-call-def
 use Rattle.relay.proofs.accept_call.Symbol.{name as #relay·accept-call}
 use Rattle.relay.proofs.accept_call.Met as accept-call-thm
-use Rattle.relay.specs.State.{state, atClock}
-use Rattle.relay.specs.Step.{Stepped}
-use Rattle.relay.proofs.Laws.{not-refused, refused-step, none-refused, clock-set, accepted-step}
+use Rattle.state.specs.State.{state, atClock}
+use Rattle.state.specs.Step.{Stepped}
+use Rattle.state.proofs.Laws.{refused-step, none-refused, accepted-step}
+use Rattle.relay.proofs.Laws.{not-refused, clock-set}
 use Rattle.relay.proofs.relay_datagram.Key.{name as #relay·relay-datagram}
 use Rattle.relay.proofs.relay_datagram as relay-datagram
 use Rattle.relay.proofs.relay_datagram.Statement as stated
@@ -107,7 +109,7 @@ module _ {M : Type 1} (𝓤 : URA M) (H : Heap 𝓤) (A : Atoms 𝓤) (W : Given
       nothing ! $ move ! (8 ∷ 0 ∷ []) $ join ! $ move ! (6 ∷ 0 ∷ []) $ join ! $ move ! (4 ∷ 0 ∷ []) $ join ! $ move ! (2 ∷ 0 ∷ []) $ join ! $ frame ! $
       nothing ! $ move ! (4 ∷ 0 ∷ []) $ fjoin ! $ move ! (3 ∷ 0 ∷ []) $ fjoin ! $ owned ! Call-t.the-row (Is Call-t.the-row) (call-row .makes 𝓤 H A W) call _ is-call $ fjoin ! $ move ! (2 ∷ 0 ∷ []) $ fjoin ! $ move ! (1 ∷ 0 ∷ []) $ fjoin ! $ frame ! $ owned ! Outcome-t.the-row (Is Outcome-t.the-row) (outcome-row .makes 𝓤 H A W) r _ is $ done !
 
-  module _ (C : Calls 𝓤 H) (Λ : Loops 𝓤 H) (fm : FmC 𝓤 H (W .laws) C) (known-lengths-of : Triple 𝓤 (C #interface·lengths-of) (Of 𝓤 H A lengths-of.ended (lengths-of.clauses 𝓤 H A mem run))) (known-refusal : Triple 𝓤 (C #interface·refusal) (Of 𝓤 H A refusal.ended (refusal.clauses 𝓤 H A mem run))) (known-time-of : Triple 𝓤 (C #interface·time-of) (Of 𝓤 H A time-of.ended (time-of.clauses 𝓤 H A mem run))) (known-set-clock : Triple 𝓤 (C #relay·set-clock) (Of 𝓤 H A set-clock.ended (set-clock.clauses 𝓤 H A mem run))) (known-accept-call : Triple 𝓤 (C #relay·accept-call) (Of 𝓤 H A accept-call.ended (accept-call.clauses 𝓤 H A mem run))) where
+  module _ (C : Calls 𝓤 H) (Λ : Loops 𝓤 H) (fm : FmC 𝓤 H (W .laws) C) (known-lengths-of : Triple 𝓤 (C #interface·lengths-of) (Of 𝓤 H A lengths-of.ended (lengths-of.clauses 𝓤 H A mem run))) (known-refusal : Triple 𝓤 (C #interface·refusal) (Of 𝓤 H A refusal.ended (refusal.clauses 𝓤 H A mem run))) (known-time-of : Triple 𝓤 (C #interface·time-of) (Of 𝓤 H A time-of.ended (time-of.clauses 𝓤 H A mem run))) (known-set-clock : Triple 𝓤 (C #state·set-clock) (Of 𝓤 H A set-clock.ended (set-clock.clauses 𝓤 H A mem run))) (known-accept-call : Triple 𝓤 (C #relay·accept-call) (Of 𝓤 H A accept-call.ended (accept-call.clauses 𝓤 H A mem run))) where
     walk : Room Slot-t.the-row (length slots) → Room u8 (length datagram) → Room u8 (length reply) → ent 𝓤 (onEntry 𝓤 H A relay-datagram.signature κs qs a at) (WpFn 𝓤 H C Λ code.function (sliceVal (a .0 .ptr) (length slots) ∷ vptr (a .1 .0 .ptr .0) (a .1 .0 .ptr .1) ∷ call-row .val call ∷ sliceVal (a .1 .1 .1 .0 .ptr) (length datagram) ∷ sliceVal (a .1 .1 .1 .1 .0 .ptr) (length reply) ∷ []) Post)
     walk room-slots room-datagram room-reply =
         qed W ((t0 ⊛ (t1 ⊛ (t2 ⊛ (t3 ⊛ ‵ ftrue)))) ∷ ‵ (owns (MutSlice (named 0) (κs .0) Slot-t.the-row ∷ MutRef (named 1) (κs .1 .0) Bookkeeping-t.the-row ∷ Call-t.the-row ∷ ShrSlice (named 2) (κs .1 .1 .0) u8 ∷ MutSlice (named 3) (κs .1 .1 .1 .0) u8 ∷ []) a at) ∷ []) ∵
@@ -182,6 +184,6 @@ relay-datagram-spec 𝓤 H 𝓜 𝓖 𝓡 =
     (cited 𝓤 H (Of 𝓤 H A lengths-of.ended (lengths-of.clauses 𝓤 H A mem run)) 𝓜 𝓡 code.env #interface·lengths-of lengths-of-def.routine code.calls-interface·refusals·lengths-of (lengths-of-thm.met 𝓤 H 𝓜 𝓖 𝓡))
     (cited 𝓤 H (Of 𝓤 H A refusal.ended (refusal.clauses 𝓤 H A mem run)) 𝓜 𝓡 code.env #interface·refusal refusal-def.routine code.calls-interface·refusals·refusal (refusal-thm.met 𝓤 H 𝓜 𝓖 𝓡))
     (cited 𝓤 H (Of 𝓤 H A time-of.ended (time-of.clauses 𝓤 H A mem run)) 𝓜 𝓡 code.env #interface·time-of time-of-def.routine code.calls-interface·incoming·time-of (time-of-thm.met 𝓤 H 𝓜 𝓖 𝓡))
-    (cited 𝓤 H (Of 𝓤 H A set-clock.ended (set-clock.clauses 𝓤 H A mem run)) 𝓜 𝓡 code.env #relay·set-clock set-clock-def.routine code.calls-relay·state·set-clock (set-clock-thm.met 𝓤 H 𝓜 𝓖 𝓡))
+    (cited 𝓤 H (Of 𝓤 H A set-clock.ended (set-clock.clauses 𝓤 H A mem run)) 𝓜 𝓡 code.env #state·set-clock set-clock-def.routine code.calls-state·set-clock (set-clock-thm.met 𝓤 H 𝓜 𝓖 𝓡))
     (cited 𝓤 H (Of 𝓤 H A accept-call.ended (accept-call.clauses 𝓤 H A mem run)) 𝓜 𝓡 code.env #relay·accept-call accept-call-def.routine code.calls-relay·accept-call (accept-call-thm.met 𝓤 H 𝓜 𝓖 𝓡))
     (are .0 .0 .1) (are .1 .1 .1 .0 .0 .1) (are .1 .1 .1 .1 .0 .0 .1))))

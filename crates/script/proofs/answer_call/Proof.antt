@@ -5,8 +5,8 @@ use Rattle.walk.proofs.Lends.{lend-slice, back-slice, lend-ref, back-ref, show-
 use borrow.Table.Copies.{halved, cRf}
 use borrow.Table.Referent.{fInt}
 use Rattle.relay.proofs.Rows.{call-row, call-typed, outcome-row, outcome-typed}
-use Rattle.relay.specs.declared.state.Bookkeeping.{Bookkeeping}
-use Rattle.relay.proofs.state.Bookkeeping as Bookkeeping-t
+use Rattle.state.specs.declared.Bookkeeping.{Bookkeeping}
+use Rattle.state.proofs.Bookkeeping as Bookkeeping-t
 use Rattle.interface.specs.declared.incoming.Call.{Call}
 use Rattle.interface.proofs.incoming.Call as Call-t
 use Rattle.rules.specs.declared.answer.Outcome.{Outcome}
@@ -21,7 +21,7 @@ use Rattle.script.proofs.put_outcome as put-outcome
 use Rattle.script.proofs.put_outcome.Symbol as put-outcome-def
 use Rattle.script.proofs.put_outcome.Symbol.{name as #script·put-outcome}
 use Rattle.script.proofs.put_outcome.Met as put-outcome-thm
-use Rattle.relay.specs.State.{state}
+use Rattle.state.specs.State.{state}
 use Rattle.script.specs.Inner.{Called}
 use Rattle.script.proofs.Run.{take-short, called}
 use Rattle.script.proofs.answer_call.Key.{name as #script·answer-call}

@@ -4,8 +4,8 @@ use Rattle.walk.proofs.Walk.{uint-row, bool-row, ref, shown, asks-none, array-r
 use Rattle.walk.proofs.Lends.{lend-slice, back-slice, lend-ref, back-ref, copy-slice, lend-array-at, back-array-at, show-array-at, hide-array-at, calls-lent}
 use Rattle.relay.proofs.Rows.{call-row, call-typed}
 use Rattle.script.proofs.Rows.{readline-row, readline-typed}
-use Rattle.relay.specs.declared.state.Bookkeeping.{Bookkeeping}
-use Rattle.relay.proofs.state.Bookkeeping as Bookkeeping-t
+use Rattle.state.specs.declared.Bookkeeping.{Bookkeeping}
+use Rattle.state.proofs.Bookkeeping as Bookkeeping-t
 use Rattle.interface.specs.declared.incoming.Call.{Call}
 use Rattle.interface.proofs.incoming.Call as Call-t
 use Rattle.lines.specs.declared.ReadLine.{ReadLine}
@@ -36,7 +36,7 @@ use Rattle.script.proofs.answer_call.Symbol as answer-call-def
 use Rattle.script.proofs.answer_call.Symbol.{name as #script·answer-call}
 use Rattle.script.proofs.answer_call.Met as answer-call-thm
 use borrow.Author.Tests.{ltb-false}
-use Rattle.relay.specs.State.{state}
+use Rattle.state.specs.State.{state}
 use Rattle.lines.specs.Lines.{lineOf}
 use Rattle.script.specs.Run.{lineIn, Runs}
 use Rattle.script.proofs.Run.{runs-small, length-fits, runs-bad, runs-asks}

@@ -2,10 +2,11 @@
 use Rattle.walk.proofs.Pre.{ℕ, _-_, ftrue, flft, SProp, ent, emp, via, fst∗, id⊢, Lfts, Shares, Fun, givenOf, tables, u8, yes, Is, Boolean, bool-vals, bool-tells, owns, plain, sliceVal, MutSlice, Room, slice-vals, mut-slice-tells, ShrSlice, shr-slice-tells, owned, nothing, onEntry, Args, Vals, Triple, cited, says, Stays, stay-slice, stay-none, walkOf, goes-slice, goes-none, ends-at, walked, stay-none-slice, goes-none-slice, Atoms, fullShare, URA, lit<, length, replicate, Bool, [], _∷_, List, refl, _≡_, named, Val, vptr, vbool, Memory, Routine, Heap, Calls, Loops, WpFn, FmC, Given, feqL, ‵, _⊛_, ⋆, _$_, _∵_, !, qed, by, move, drop, split, join, fsplit, fjoin, suffices, frame, done, keep, Item, whole, sub, look-in, agg, look, init, stop, hop, fld, from, load, lit, of-opd, assigns, returns, enter, alloc1, alloc0, params1, pass1, pass0, free0, and-then, no-more, land, addr, returns-within}
 use Rattle.walk.proofs.Walk.{bool-row, ref, asks-none, array-row, is-repeat, repeats, Of, tokens, calls-any, out, out-room, guards, holds-true, fails-false, framed-calls, finish}
 use Rattle.walk.proofs.Lends.{lend-slice, back-slice, copy-slice, lend-local-at, back-local-at, lend-array-at, back-array-at}
-use Rattle.relay.proofs.Rows.{call-row, call-typed, bookkeeping-row, bookkeeping-typed, outcome-row, outcome-typed}
+use Rattle.relay.proofs.Rows.{call-row, call-typed, outcome-row, outcome-typed}
+use Rattle.state.proofs.Rows.{bookkeeping-row, bookkeeping-typed}
 use Rattle.table.proofs.Rows.{slot-row, slot-typed}
-use Rattle.relay.specs.declared.state.Bookkeeping.{Bookkeeping}
-use Rattle.relay.proofs.state.Bookkeeping as Bookkeeping-t
+use Rattle.state.specs.declared.Bookkeeping.{Bookkeeping}
+use Rattle.state.proofs.Bookkeeping as Bookkeeping-t
 use Rattle.interface.specs.declared.incoming.Call.{Call}
 use Rattle.interface.proofs.incoming.Call as Call-t
 use Rattle.rules.specs.declared.answer.Outcome.{Outcome}
@@ -17,9 +18,9 @@ use Rattle.relay.proofs.relay_datagram.Symbol as relay-datagram-def
 use Rattle.relay.proofs.relay_datagram.Symbol.{name as #relay·relay-datagram}
 use Rattle.relay.proofs.relay_datagram.Met as relay-datagram-thm
 use Rattle.choice.specs.Choice.{pick}
-use Rattle.relay.specs.State.{state}
-use Rattle.relay.specs.Outcomes.{outcomeOf}
-use Rattle.relay.specs.Step.{act}
+use Rattle.state.specs.State.{state}
+use Rattle.state.specs.Outcomes.{outcomeOf}
+use Rattle.state.specs.Step.{act}
 use Rattle.edges.proofs.Laws.{of-first, of-second}
 use Rattle.edges.proofs.lent.not_sixty_four.Key.{name as #edges·not-sixty-four}
 use Rattle.edges.proofs.lent.not_sixty_four as not-sixty-four

@@ -9,8 +9,8 @@ use Rattle.slot.specs.declared.Found.the-variants.{At, Nothing}
 use Rattle.rules.specs.declared.answer.Outcome.{Outcome}
 use Rattle.rules.specs.Change.{Change, keep, write, outOf}
 use Rattle.interface.specs.declared.incoming.Call.{Call}
-use Rattle.relay.specs.State.{State, clockOf, atTime, withSlots}
-use Rattle.relay.specs.Outcomes.{Act, refuse, accept, Does}
+use Rattle.state.specs.State.{State, clockOf, atTime, withSlots}
+use Rattle.state.specs.Outcomes.{Act, refuse, accept, Does}
 use Rattle.interface.specs.Refusals.{timeOf, lengths, refusal}
 use Rattle.decisions.specs.Decisions.{decided}
 

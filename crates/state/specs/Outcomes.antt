@@ -6,7 +6,7 @@ use Rattle.rules.specs.declared.answer.Outcome.{Outcome}
 use Rattle.rules.specs.declared.answer.Outcome.the-variants.{Refused}
 use Rattle.rules.specs.Change as rules
 use Rattle.rules.specs.Change.{Out}
-use Rattle.relay.specs.State.{State}
+use Rattle.state.specs.State.{State}
 
 -- what a call does: it is refused with a number, or gives something out and leaves this state
 pub data Act : Type 0 where

@@ -4,7 +4,7 @@ use mathlib.Core.List.{List}
 use lib.ListN.{replicate}
 use Rattle.slot.specs.declared.Slot.{Slot}
 use Rattle.slot.specs.Slot.{freshSlot}
-use Rattle.relay.specs.declared.state.Bookkeeping.{Bookkeeping}
+use Rattle.state.specs.declared.Bookkeeping.{Bookkeeping}
 
 pub record State : Type 0 where
   pub slots : List Slot

@@ -1,18 +1,18 @@
--- `relay::state::set_clock` meets its contract: a walk of its MIR, made by tools/rewalk.
+-- `state::set_clock` meets its contract: a walk of its MIR, made by tools/rewalk.
 use Rattle.walk.proofs.Pre.{ℕ, _<_, _^_, _-_, ftrue, flft, SProp, ent, emp, via, fst∗, Lfts, Shares, Fun, givenOf, tables, u64, yes, Is, uint-vals, uint-tells, Nothing, owns, MutRef, ptr-vals, mut-tells, plain, owned, nothing, onEntry, Args, Vals, says, Stays, stay-none, walkOf, goes-none, ends-at, walked, stay-ref, goes-ref, Atoms, URA, [], _∷_, refl, _≡_, named, w64, Val, vunit, vint, vptr, Memory, Routine, Heap, Calls, Loops, WpFn, FmC, Given, ‵, _⊛_, ⋆, _$_, _∵_, !, qed, by, move, drop, split, join, fsplit, fjoin, suffices, frame, done, keep, Item, whole, sub, look, init, stop, hop, fld, from, load, unit-lit, of-opd, assigns, returns, enter, alloc1, alloc0, params1, pass1, pass0, free0}
 use Rattle.walk.proofs.Walk.{uint-row, unit-row, ref, tokens, out, framed-calls, finish}
 use Rattle.walk.proofs.Whole.{val-look, val-shut}
 use denote.Struct.Laws as SL
 use types.Part.{store-in}
-use Rattle.relay.proofs.Rows.{bookkeeping-row}
-use Rattle.relay.specs.declared.state.Bookkeeping.{Bookkeeping}
-use Rattle.relay.proofs.state.Bookkeeping as Bookkeeping-t
-use Rattle.relay.proofs.state.Bookkeeping.Laws as Bookkeeping-l
-use Rattle.relay.specs.State.{atClock}
-use Rattle.relay.proofs.state.set_clock.Key.{name as #relay·set-clock}
-use Rattle.relay.proofs.state.set_clock as set-clock
-use Rattle.relay.proofs.state.set_clock.Statement as stated
-use Rattle.relay.proofs.state.set_clock.Code as code
+use Rattle.state.proofs.Rows.{bookkeeping-row}
+use Rattle.state.specs.declared.Bookkeeping.{Bookkeeping}
+use Rattle.state.proofs.Bookkeeping as Bookkeeping-t
+use Rattle.state.proofs.Bookkeeping.Laws as Bookkeeping-l
+use Rattle.state.specs.State.{atClock}
+use Rattle.state.proofs.set_clock.Key.{name as #state·set-clock}
+use Rattle.state.proofs.set_clock as set-clock
+use Rattle.state.proofs.set_clock.Statement as stated
+use Rattle.state.proofs.set_clock.Code as code
 
 abbrev stayed : Stays (set-clock.ended .signature .params) (set-clock.ended .kept)
 stayed = (stay-ref (0 ∷ []) tt (plain (λ _. Bookkeeping-t.the-row)), (stay-none (λ _. u64) yes, tt))
@@ -75,7 +75,7 @@ set-clock-spec 𝓤 H 𝓜 𝓖 𝓡 =
     let C = tables 𝓤 H 𝓜 𝓡 code.env .C in
     let Λ = tables 𝓤 H 𝓜 𝓡 code.env .Λ in
     finish 𝓤 H 𝓜 𝓖 𝓡 code.env set-clock.ended stayed (goes-ref 𝓤 H A W 1 0 tt (plain (λ _. Bookkeeping-t.the-row)), (goes-none 𝓤 H A W 1 (λ _. u64) yes (λ κs x f. refl), tt))
-    (set-clock.clauses 𝓤 H A mem run) #relay·set-clock code.function (code.unfolded 𝓤 H 𝓜 𝓡)
+    (set-clock.clauses 𝓤 H A mem run) #state·set-clock code.function (code.unfolded 𝓤 H 𝓜 𝓡)
     (walked 𝓤 H A set-clock.ended stayed (set-clock.clauses 𝓤 H A mem run) (WpFn 𝓤 H C Λ code.function) (λ κs. (ptr-vals, (uint-vals w64, tt))) (λ κs. (mut-tells (named 0) (κs .0) Bookkeeping-t.the-row, (uint-tells w64, tt)))
     (λ κs qs bounds a g are. via 𝓤 _ (fst∗ 𝓤 _ (emp 𝓤))
     (walk 𝓤 H A W mem run κs qs a (are .1 .0 .1) C Λ (framed-calls 𝓤 H 𝓜 𝓖 𝓡 code.env))))

@@ -1,0 +1,3 @@
+pub mod Outcomes
+pub mod State
+pub mod Step
