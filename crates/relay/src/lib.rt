@@ -1,6 +1,6 @@
 // The relay's public entries, over the sixty-four slots lent as a slice of records, what the relay keeps beside them as one lent struct,
-// and the datagram and the reply as lent bytes. Every decision is by value, in the modules and in the crates below; here the slots are
-// looked over, one is read, and it is written back where it changed.
+// and the datagram and the reply as lent bytes. Every decision is by value, in the crates below; here the slots are looked over, one is
+// read, and it is written back where it changed.
 use decisions::Seen;
 use decisions::answer_call;
 use decisions::answer_unfound;

@@ -18,6 +18,6 @@ pub record ReadHex (text before after : List ℕ) (read : Parsed) : Type 0 where
   pub answer : read ≡ pick (isHex text) (Number (length (hexBytesOf text))) Nothing
   pub is : after ≡ hexInto text before
 
--- b is none of the n bytes from `start` on: a search from there goes on behind them
+-- b is none of the n bytes from `start` on: whoever looks for it goes on behind them
 abbrev pub Past : List ℕ → ℕ → ℕ → ℕ → Type 0
 Past a start n b = (to : ℕ) → start + n ≤ to → to ≤ length a → indexOf b (slice start to a) ≡ n + indexOf b (slice (start + n) to a)
