@@ -30,6 +30,21 @@ def extends(send):
     return sent
 
 
+def for_any_user(allocate):
+    def allocated(self, now, user, start, relay_addr, tuple5, m, token):
+        own = self.find_tuple(now, tuple5)
+        return allocate(self, now, user if own is None else self.slots[own].user, start, relay_addr, tuple5, m, token)
+    return allocated
+
+
+def extended(repeat):
+    def repeated(self, now, relay_addr, tuple5, m, slot):
+        out = repeat(self, now, relay_addr, tuple5, m, slot)
+        slot.expiry = now + 600
+        return out
+    return repeated
+
+
 def spoil_rules():
     if FAULT == "a permission lives at its expiry":
         relay.Permission.live = lambda self, t: t <= self.expiry
@@ -42,6 +57,10 @@ def spoil_rules():
     elif FAULT == "a lifetime of 3,601 seconds is granted":
         relay.granted_lifetime = lambda value, refresh: 600 if value is None else value if value == 3601 or refresh and value == 0 \
             else max(600, min(value, 3600))
+    elif FAULT == "a repeat of another user is answered":
+        rule(relay.Relay, "allocate", for_any_user)
+    elif FAULT == "a repeat extends its allocation":
+        rule(relay.Relay, "repeat", extended)
     elif FAULT == "padding is not zero":
         relay.attribute = lambda kind, value: relay.u16(kind) + relay.u16(len(value)) + value + b" " * (-len(value) % 4)
     elif FAULT == "the port search does not wrap":
@@ -112,7 +131,7 @@ def answer_all(state, lines):
 
 def main():
     spoil_rules()
-    state = relay.Relay()
+    state = relay.Relay(0) if FAULT == "a repeat gets 437" else relay.Relay()
     for lines in batches():
         if not answer_all(state, lines):
             if FAULT == "lists after a lost answer":

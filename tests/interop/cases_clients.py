@@ -76,6 +76,23 @@ def case_aioice(lab):
             assert word in log, word
 
 
+def case_aioice_lost_reply(lab):
+    "aioice, the first reply to its Allocate lost: it sends the same again and gets the allocation that it has"
+    with echo(lab), lab.relayd() as relayd:
+        with lab.replies_lost():
+            command = ("/usr/bin/python3", HERE / "aioice_client.py", SERVER, names.PORT, PEER, ECHO_PORT)
+            client = lab.start("client", *command, stdout=subprocess.PIPE, stderr=subprocess.PIPE, text=True)
+            made = wait_for(lambda: re.search(r"allocation made: .* relay port (\d+), for 10:00", "\n".join(relayd.log())), "the allocation")
+        said, trouble = client.communicate(timeout=30)
+        assert client.returncode == 0, trouble
+        assert said.split() == [SERVER, made[1]], (said, made[0])
+        log = "\n".join(relayd.log())
+        assert log.count("allocation made: ") == 1 and not re.search("Allocate.* 437", log), log
+        again = re.findall(r"allocation told again: .* relay port (\d+), (\S+) left", log)
+        assert again and all(port == made[1] and names.seconds(left) >= 590 for port, left in again), log
+        assert relayd.status().allocations == [], "refresh to 0 left an allocation"
+
+
 def case_aioice_ipv6(lab):
     "aioice from an IPv6 client"
     with echo(lab), lab.relayd() as relayd:
@@ -119,5 +136,5 @@ def case_control_aioice(lab):
         assert aioice(lab, SERVER, CONTROL_PORT)[0] == SERVER
 
 
-CASES = [case_aioice, case_aioice_ipv6, case_aioice_another_address, *(uclient_case(*run) for run in RUNS), case_control_aioice,
+CASES = [case_aioice, case_aioice_lost_reply, case_aioice_ipv6, case_aioice_another_address, *(uclient_case(*run) for run in RUNS), case_control_aioice,
          *(control_case(*run) for run in RUNS)]

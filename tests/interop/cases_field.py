@@ -138,7 +138,9 @@ def case_program_killed(lab):
     own_calls = lab.folder / "calls"
     shutil.copy(CALLS, own_calls)
     with lab.relayd("--calls", own_calls, calls=()) as relayd:
-        client, peer = ready(lab)
+        client, peer = lab.client(), lab.peer()
+        client.allocate()
+        first = client.request_sent
         client.bind(0x4000, peer.getsockname())
         port = client.relayed[1]
         # Another file in its place is not started before relayd is.
@@ -153,6 +155,7 @@ def case_program_killed(lab):
             assert peer.recvfrom(65536) == (b"after it", client.relayed)
             peer.sendto(b"and back", client.relayed)
             assert client.receive() == ("channel", 0x4000, b"and back")
+        assert turn.read_address(client.ask(first)[turn.RELAYED], client.transaction) == client.relayed
         assert client.refresh(600) == 600 and client.relayed[1] == port
         refused(client.allocate, 437)
         assert relayd.status().totals[-1].endswith("after the first: 3"), relayd.status().text

@@ -275,5 +275,27 @@ def case_allocation_lapses(lab):
         assert len(relayd.status().allocations) == 2
 
 
+def case_repeated_allocate(lab):
+    "the same Allocate again gets the same port and the seconds left, and changes nothing: permissions go on; another Allocate gets 437"
+    with lab.relayd("--clock-offset", "70") as relayd:
+        client, peer = lab.client(), lab.peer()
+        client.allocate()
+        first = client.request_sent
+        client.permit(PEER)
+
+        def again(at_least, at_most):
+            found = client.ask(first)
+            assert turn.read_address(found[turn.RELAYED], client.transaction) == client.relayed
+            assert at_least <= int.from_bytes(found[turn.LIFETIME], "big") <= at_most
+            peer.sendto(b"still", client.relayed)
+            assert client.receive() == ("data", peer.getsockname(), b"still")
+
+        again(595, 600)
+        relayd.forward()
+        again(525, 530)
+        refused(client.allocate, 437)
+        assert "\n".join(relayd.events()).count("allocation told again: ") == 2
+
+
 CASES = [case_send_and_data, case_two_clients, case_zero_length, case_empty_datagram, case_noise, case_1500_bytes, case_vanished_client, case_64_allocations,
-         case_ports_at_random, case_port_scan, case_permission_lapses, case_allocation_lapses]
+         case_ports_at_random, case_port_scan, case_permission_lapses, case_allocation_lapses, case_repeated_allocate]

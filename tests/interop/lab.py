@@ -270,6 +270,21 @@ class Lab:
         assert status or said().count("\n") == 1, said()
 
     @contextlib.contextmanager
+    def replies_lost(self):
+        """What the relay sends to the client's host in here is lost on its way: a queue of no places takes it. The two have met before."""
+        probe = self.client()
+        probe.sock.settimeout(2)
+        probe.sock.send(turn.message(turn.REFRESH, os.urandom(12), []))
+        probe.sock.recv(1536)
+        probe.close()
+        queue = ("qdisc", "replace", "dev", "to-client", "root", "pfifo", "limit", 0)
+        assert self.run("relay", "tc", *queue).returncode == 0
+        try:
+            yield
+        finally:
+            assert self.run("relay", "tc", "qdisc", "del", "dev", "to-client", "root").returncode == 0
+
+    @contextlib.contextmanager
     def process(self, host, *command):
         """A helper process, ended at the end."""
         process = self.start(host, *command, stdout=subprocess.DEVNULL, stderr=subprocess.DEVNULL)

@@ -68,8 +68,8 @@ class Client:
 
     def request(self, kind, *attributes):
         """Sends a request and gives the attributes of its success; data that comes in between is kept."""
-        transaction = os.urandom(12)
-        return self.ask(self.make(kind, transaction, attributes))
+        self.request_sent = self.make(kind, os.urandom(12), attributes)
+        return self.ask(self.request_sent)
 
     def ask(self, request):
         """Sends these bytes, which are a request, and gives the attributes of its success."""

@@ -1,7 +1,7 @@
-// Addresses, transport addresses and 5-tuples with the tests of their equality, and transaction ids.
+// Addresses, transport addresses, 5-tuples and transaction ids, with the tests of their equality.
 use choice::both;
 ghost use mathlib.Core.Path.{_≡_};
-ghost use Rattle.address.specs.Address.{sameAddress, sameTransportAddress, sameFiveTuple};
+ghost use Rattle.address.specs.Address.{sameAddress, sameTransportAddress, sameFiveTuple, sameTransactionId};
 
 // An IP address: IPv4 in one word, IPv6 in four, the highest first.
 pub enum Address {
@@ -64,4 +64,10 @@ pub fn same_five_tuple(a: FiveTuple, b: FiveTuple) -> bool
         same_transport_address(a.server, b.server),
         a.protocol == b.protocol,
     )
+}
+
+pub fn same_transaction_id(a: TransactionId, b: TransactionId) -> bool
+    ensures { λ r. ⌜ r ≡ sameTransactionId a b ⌝ }
+{
+    both(a.high == b.high, both(a.middle == b.middle, a.low == b.low))
 }

@@ -1,4 +1,4 @@
--- Laws of the lifetime granted and of the search for a port.
+-- Laws of a repeat, of the lifetime granted and of the search for a port.
 use Prim.Native.Nat.{ℕ, suc, _+_, _-_, _%_, _≤_, _<_, min, max}
 use mathlib.Core.Path.{_≡_, sym, ap, _∙_}
 use mathlib.Core.Bool.{Bool, true, false}
@@ -7,9 +7,17 @@ use lib.ListN.{getD}
 use native.Mathlib.Omega.{arith}
 use lib.Dec.{eqb}
 use Rattle.choice.specs.Choice.{pick}
+use Rattle.choice.proofs.Laws.{both-parts}
 use Rattle.stun.specs.declared.values.NumberValue.{NumberValue}
 use Rattle.stun.specs.declared.values.NumberValue.the-variants.{Number, WrongLength, Absent}
-use Rattle.allocation_rules.specs.Allocations.{firstFree, granted, grantedRefresh}
+use Rattle.slot.specs.declared.Slot.{Slot}
+use Rattle.rules.specs.declared.requests.ClientCall.{ClientCall}
+use Rattle.allocation_rules.specs.Allocations.{repeats, firstFree, granted, grantedRefresh}
+
+-- ---- A repeat is of a 5-tuple that has a live slot
+pub repeats-own : (call : ClientCall) (s : List ℕ) (own : Bool) (slot : Slot) → repeats call s own slot ≡ true → own ≡ true
+unfolding repeats
+repeats-own call s own slot e = both-parts _ _ e .0
 
 -- ---- The lifetime granted is 0, or from 600 to 3600
 pub granted-small : (v : NumberValue) → granted v ≤ 3600

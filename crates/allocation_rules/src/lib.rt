@@ -1,6 +1,10 @@
 // Allocate and Refresh, by value: from a lent datagram and what the look over the table found, the outcome, the slot and the reply.
+use address::TransactionId;
+use address::same_transaction_id;
+use choice::both;
 use lifetimes::granted;
 use lifetimes::granted_refresh;
+use lifetimes::seconds_left;
 use messages::put_allocate_success;
 use messages::put_refresh_success;
 use rules::answer::Answer;
@@ -17,6 +21,7 @@ use slot::Allocation;
 use slot::Slot;
 use slot::fresh_slot;
 use slot::with_allocation;
+use slot::with_transaction_id;
 use stun::kinds::Method;
 use stun::values::lifetime;
 use stun::values::requested_address_family;
@@ -25,8 +30,8 @@ use stun::values::transaction_id;
 ghost use mathlib.Core.Path.{_≡_};
 ghost use Prim.Native.Nat.{_≤_, _^_};
 ghost use lib.ListN.{length};
-ghost use Rattle.rules.specs.Inner.{Answers};
-ghost use Rattle.allocation_rules.specs.Allocations.{allocateCode, allocated, allocate, refreshCode, renewed, refreshed, refresh};
+ghost use Rattle.rules.specs.Inner.{Gives, Answers};
+ghost use Rattle.allocation_rules.specs.Allocations.{repeats, allocateCode, allocated, allocateReply, allocate, refreshCode, renewed, refreshed, refresh};
 
 pub mod lifetimes;
 pub mod ports;
@@ -43,8 +48,19 @@ pub struct Room {
     pub port: u16,
 }
 
-fn allocate_code(s: &[u8], call: ClientCall, room: Room) -> u16
-    ensures { λ r. ⌜ (r ≡ allocateCode call (now (s .entry)) room) × (r ≤ 699) ⌝ }
+// Whether an Allocate is that which made the slot, come again: of the same transaction and user.
+fn repeats(s: &[u8], call: ClientCall, own: bool, slot: Slot) -> bool
+    requires { ⌜ 20 ≤ length (now s) ⌝ }
+    ensures { λ r. ⌜ r ≡ repeats call (now (s .entry)) own slot ⌝ }
+{
+    let allocation = slot.allocation;
+    let id = transaction_id(s);
+    let same = same_transaction_id(slot.transaction_id, id);
+    both(own, both(same, allocation.user == call.user))
+}
+
+fn allocate_code(s: &[u8], call: ClientCall, again: bool, room: Room) -> u16
+    ensures { λ r. ⌜ (r ≡ allocateCode call (now (s .entry)) again room) × (r ≤ 699) ⌝ }
 {
     let transport = requested_transport(s);
     let family = requested_address_family(s);
@@ -59,17 +75,14 @@ fn allocate_code(s: &[u8], call: ClientCall, room: Room) -> u16
         442,
         check(wrong_length(family), 400, values),
     );
-    request_code(
-        s,
-        call,
-        check(room.own, 437, check(missing(transport), 400, rest)),
-    )
+    let first = check(room.own, 437, check(missing(transport), 400, rest));
+    request_code(s, call, check(again, 0, first))
 }
 
 // The slot of a new allocation.
-fn allocated(call: ClientCall, port: u16, seconds: u32) -> Slot
+fn allocated(call: ClientCall, id: TransactionId, port: u16, seconds: u32) -> Slot
     requires { ⌜ (call .time ≤ 2 ^ 40) × (seconds ≤ 3600) ⌝ }
-    ensures { λ r. ⌜ r ≡ allocated call port seconds ⌝ }
+    ensures { λ r. ⌜ r ≡ allocated call id port seconds ⌝ }
 {
     let five_tuple = call.five_tuple;
     let allocation = Allocation {
@@ -78,25 +91,44 @@ fn allocated(call: ClientCall, port: u16, seconds: u32) -> Slot
         port,
         expiry: call.time + seconds as u64,
     };
-    with_allocation(fresh_slot(), allocation)
+    with_transaction_id(with_allocation(fresh_slot(), allocation), id)
 }
 
-// An Allocate. Where it is answered with an error, the slot `was` is handed back as it is.
+// The success response to an Allocate.
+fn give_allocated(s: &[u8], reply: &mut [u8], call: ClientCall, port: u16, seconds: u32) -> Outcome
+    requires { ⌜ (20 ≤ length (now s)) × (1536 ≤ length (now reply)) ⌝ }
+    ensures { λ r. ⌜ Gives (allocateReply call (now (s .entry)) port seconds) (now (reply .entry)) (now (reply .exit)) r ⌝ }
+{
+    let id = transaction_id(s);
+    let five_tuple = call.five_tuple;
+    let client = five_tuple.client;
+    let len = put_allocate_success(reply, id, call.relay, port, seconds, client);
+    Outcome::ToClient { five_tuple, len }
+}
+
+// An Allocate. `was` is the live slot of the 5-tuple, or a fresh one; where no slot is written, it is handed back as it is.
 pub fn allocate(s: &[u8], reply: &mut [u8], call: ClientCall, room: Room, was: Slot) -> Answer
     requires { ⌜ (20 ≤ length (now s)) × (1536 ≤ length (now reply)) × (call .time ≤ 2 ^ 40) ⌝ }
-    ensures { λ r. ⌜ Answers (allocate call (now (s .entry)) room) was (now (reply .entry)) (now (reply .exit)) r ⌝ }
+    ensures { λ r. ⌜ Answers (allocate call (now (s .entry)) room was) was (now (reply .entry)) (now (reply .exit)) r ⌝ }
 {
-    let code = allocate_code(s, call, room);
-    let five_tuple = call.five_tuple;
+    let again = repeats(s, call, room.own, was);
+    let code = allocate_code(s, call, again, room);
     if code != 0 {
+        let five_tuple = call.five_tuple;
         return respond_error(s, reply, five_tuple, Method::Allocate, code, was);
     }
     let seconds = granted(lifetime(s));
-    let slot = allocated(call, room.port, seconds);
-    let id = transaction_id(s);
-    let client = five_tuple.client;
-    let len = put_allocate_success(reply, id, call.relay, room.port, seconds, client);
-    let outcome = Outcome::ToClient { five_tuple, len };
+    if again {
+        let stored = was.allocation;
+        let left = seconds_left(call.time, stored.expiry);
+        return Answer {
+            outcome: give_allocated(s, reply, call, stored.port, left),
+            writes: false,
+            slot: was,
+        };
+    }
+    let slot = allocated(call, transaction_id(s), room.port, seconds);
+    let outcome = give_allocated(s, reply, call, room.port, seconds);
     Answer {
         outcome,
         writes: true,

@@ -1,8 +1,8 @@
-// The lifetime granted.
+// The lifetime granted, and how much of it is left.
 use stun::values::NumberValue;
 ghost use mathlib.Core.Path.{_≡_};
 ghost use Prim.Native.Nat.{min, max};
-ghost use Rattle.allocation_rules.specs.Allocations.{granted, grantedRefresh};
+ghost use Rattle.allocation_rules.specs.Allocations.{granted, grantedRefresh, secondsLeft};
 
 // At least 600 seconds, and at most 3600.
 fn clamped(seconds: u32) -> u32
@@ -42,4 +42,18 @@ pub(crate) fn granted_refresh(asked: NumberValue) -> u32
         NumberValue::WrongLength => 600,
         NumberValue::Absent => 600,
     }
+}
+
+// The seconds until the expiry, as many as LIFETIME can say.
+pub(crate) fn seconds_left(time: u64, expiry: u64) -> u32
+    ensures { λ r. ⌜ r ≡ secondsLeft time expiry ⌝ }
+{
+    if expiry <= time {
+        return 0;
+    }
+    let left = expiry - time;
+    if 0xffffffff < left {
+        return 0xffffffff;
+    }
+    left as u32
 }

@@ -15,7 +15,7 @@ use Rattle.stun.specs.declared.kinds.Method.the-variants.{CreatePermission, Cha
 use Rattle.stun.specs.declared.values.NumberValue.{NumberValue}
 use Rattle.stun.specs.declared.values.NumberValue.the-variants.{Number, WrongLength, Absent}
 use Rattle.stun.specs.Values.{transactionId, peers, firstPeer}
-use Rattle.messages.specs.Messages.{allocateSuccess, refreshSuccess, bareSuccess}
+use Rattle.messages.specs.Messages.{refreshSuccess, bareSuccess}
 use Rattle.slot.specs.declared.Slot.{Slot}
 use Rattle.slot.specs.Slot.{isChannelNumber, numberTaken, peerTaken, permit, bind}
 use Rattle.rules.specs.declared.requests.ClientCall.{ClientCall}
@@ -23,7 +23,8 @@ use Rattle.allocation_rules.specs.declared.Room.{Room}
 use Rattle.rules.specs.Change.{Out, toClient, Change, keep, write, check, respond, errorMessage}
 use Rattle.rules.specs.Values.{lifetime, channelNumber, numberGiven, isIpv6, any, ipv6Peer}
 use Rattle.rules.specs.Requests.{requestCode, ownCode}
-use Rattle.allocation_rules.specs.Allocations.{allocateCode, allocated, allocate, refreshCode, refreshed, refresh, granted, grantedRefresh}
+use Rattle.rules.proofs.Laws.{kept-not-written}
+use Rattle.allocation_rules.specs.Allocations.{repeats, allocateCode, allocated, allocateReply, allocate, refreshCode, refreshed, refresh, granted, grantedRefresh}
 use Rattle.permission_rules.specs.Permissions.{permitAll, createPermissionCode, createPermission, bound, channelBindCode, channelBind}
 
 -- ---- Checks
@@ -69,15 +70,22 @@ module _ (call : ClientCall) (s : List ℕ) (slot : Slot) (out : Out) where
     pub new : seen .own ≡ false
     pub quota : leb 8 (seen .held) ≡ false
     pub room : seen .free ≡ true
-    pub slot-is : slot ≡ allocated call (seen .port) (granted (lifetime s))
-    pub out-is : out
-        ≡ toClient (call .«five_tuple») (allocateSuccess (transactionId s) (call .relay) (seen .port) (granted (lifetime s)) (call .«five_tuple» .client))
+    pub slot-is : slot ≡ allocated call (transactionId s) (seen .port) (granted (lifetime s))
+    pub out-is : out ≡ allocateReply call s (seen .port) (granted (lifetime s))
 
-  pub allocates : (seen : Room) → allocate call s seen ≡ write slot out → Allocates seen
+  -- only one that is no repeat writes a slot
+  not-repeated : (again : Bool) (rest : ℕ) (reply out′ : Out) (made : Slot) → check again 0 rest ≡ 0 → pick again (keep reply) (write made out′) ≡ write slot out
+      → (rest ≡ 0) × (write made out′ ≡ write slot out)
+  unfolding check
+  not-repeated true rest reply out′ made e q = kept-not-written q
+  not-repeated false rest reply out′ made e q = (e, q)
+
+  pub allocates : (seen : Room) (was : Slot) → allocate call s seen was ≡ write slot out → Allocates seen
   unfolding allocate allocateCode
-  allocates seen e =
-      let q = answered _ _ s _ _ e in
-      let own = passed (seen .own) 437 _ (some (omega arith)) (requested call s _ (q .0)) in
+  allocates seen was e =
+      let a = answered _ _ s _ _ e in
+      let q = not-repeated (repeats call s (seen .own) was) _ _ _ _ (requested call s _ (a .0)) (a .1) in
+      let own = passed (seen .own) 437 _ (some (omega arith)) (q .0) in
       let length-transport = passed _ 400 _ (some (omega arith)) (own .1) in
       let transport = passed _ 442 _ (some (omega arith)) (length-transport .1) in
       let length-family = passed _ 400 _ (some (omega arith)) (transport .1) in

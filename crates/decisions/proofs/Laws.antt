@@ -41,12 +41,12 @@ use Rattle.data_rules.specs.Data.{send, channelledFrom, sendChannelData, relayF
 use Rattle.decisions.specs.Client.{kindAsks, classAsks, askedBy}
 use Rattle.decisions.proofs.Accepted.{allocates as allocate-accepted, refreshes, permits, binds}
 use Rattle.decisions.proofs.WellFormed.{well-formed-long}
-use Rattle.rules.proofs.Laws.{kept-not-written}
+use Rattle.rules.proofs.Laws.{gives-kept, kept-not-written}
 use Rattle.interface.specs.declared.incoming.Call.{Call}
 use Rattle.interface.specs.declared.incoming.Call.the-variants.{Client, Peer}
 use Rattle.interface.specs.declared.incoming.FromClient.{FromClient}
 use Rattle.interface.specs.declared.incoming.FromPeer.{FromPeer}
-use Rattle.decisions.specs.Decisions.{portsHeld, asRules, roomFor, aboutFound, aboutOwn, onAsked, decided}
+use Rattle.decisions.specs.Decisions.{portsHeld, asRules, ownPlace, slotIn, roomFor, aboutFound, aboutOwn, onAsked, decided}
 use Rattle.decisions.specs.Inner.{ReadyClient, ReadyPeer, Ready, UserFits, askedFor, isData, wantedBy, unwritten}
 
 -- ---- A call that is not refused
@@ -140,9 +140,11 @@ module _ (call : FromClient) (asked : Asked) {survey : Survey} {own : Slot} {rep
       (subst (λ (x : Slot). Answers (rule (has (survey .own)) x) own reply reply′ answer) e
       (subst (λ (b : Bool). Answers (rule b own) own reply reply′ answer) h w))
 
--- what is given out and keeps the slot
-pub data-answers : {out : Out} {outcome : Outcome} (own : Slot) {reply reply′ : List ℕ} → Gives out reply reply′ outcome → Answers (keep out) own reply reply′ (unwritten outcome own)
-data-answers own g = record { gives = g; writes = refl; slot = refl }
+-- the same of Allocate, whose rule is told in another way whether there is one
+pub own-slot-answers : (call : FromClient) {survey : Survey} {own : Slot} {reply reply′ : List ℕ} {answer : Answer} (rule : Slot → Change)
+    → Answers (rule own) own reply reply′ answer → (slots : List Slot) → Looked slots (wantedBy (Client call) Asked.Allocate) survey
+    → own ≡ atOr freshSlot (survey .own) slots → Answers (rule (slotIn slots (ownPlace call slots))) own reply reply′ answer
+own-slot-answers call rule = own-answers call Asked.Allocate refl (λ there. rule)
 
 pub quiet-gives : {out : Out} {outcome : Outcome} (reply : List ℕ) → outcome ≡ outcomeOf out → replyAfter reply out ≡ reply → Gives out reply reply outcome
 quiet-gives reply e r = record { outcome-is = e; reply-is = sym r }
@@ -155,7 +157,7 @@ unfolding keyed
 peer-answers call {survey} {own} {reply} {reply′} {outcome} {there} h rule g slots l e =
     subst (λ (f : Found). Answers (keep (rule (has f) (atOr freshSlot f slots))) own reply reply′ (unwritten outcome own)) (l .own)
     (subst (λ (x : Slot). Answers (keep (rule (has (survey .own)) x)) own reply reply′ (unwritten outcome own)) e
-    (subst (λ (b : Bool). Answers (keep (rule b own)) own reply reply′ (unwritten outcome own)) h (data-answers own g)))
+    (subst (λ (b : Bool). Answers (keep (rule b own)) own reply reply′ (unwritten outcome own)) h (gives-kept own g)))
 
 -- data for which no slot was found is dropped
 module _ (call : ClientCall) (s : List ℕ) (slot : Slot) where
@@ -176,7 +178,7 @@ module _ (call : ClientCall) (s : List ℕ) (slot : Slot) where
       go Malformed = refl
 
 dropped-answers : {out : Out} (own : Slot) (reply : List ℕ) → out ≡ dropped → Answers (keep out) own reply reply (unwritten Dropped own)
-dropped-answers own reply e = rw e (data-answers own (quiet-gives reply refl refl))
+dropped-answers own reply e = rw e (gives-kept own (quiet-gives reply refl refl))
 
 module _ {survey : Survey} (own : Slot) (reply : List ℕ) (none : has (survey .own) ≡ false) (s : List ℕ) where
   pub client-dropped : (call : FromClient) (asked : Asked) → isData asked ≡ true → (slots : List Slot) → Looked slots (wantedBy (Client call) asked) survey
@@ -207,7 +209,7 @@ peer-data {call} {peer} {asked} s e q = ap isData (subst (λ (x : Call). asked �
 -- a slot is written only where one was found
 module _ (call : FromClient) (s : List ℕ) (slots : List Slot) where
   asked-writes : (asked : Asked) (slot : Slot) (out : Out) → onAsked call s slots asked .change ≡ write slot out → has (onAsked call s slots asked .place) ≡ true
-  asked-writes Asked.Allocate slot out e = allocate-accepted (asRules call) s slot out (roomFor call slots) e .room
+  asked-writes Asked.Allocate slot out e = allocate-accepted (asRules call) s slot out (roomFor call slots) _ e .room
   asked-writes Asked.Refresh slot out e = refreshes (asRules call) s slot out _ _ e .owner .live
   asked-writes Asked.CreatePermission slot out e = permits (asRules call) s slot out _ _ e .owner .live
   asked-writes Asked.ChannelBind slot out e = binds (asRules call) s slot out _ _ e .owner .live

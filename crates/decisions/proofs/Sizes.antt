@@ -29,8 +29,8 @@ use Rattle.slot.specs.Slot.{freshChannel, numbered, leadsTo}
 use Rattle.rules.specs.declared.requests.ClientCall.{ClientCall}
 use Rattle.allocation_rules.specs.declared.Room.{Room}
 use Rattle.rules.specs.Change.{Out, dropped, toClient, toPeer, Change, keep, outOf, errorMessage, respond}
-use Rattle.rules.specs.Values.{anyUnknown, isIpv6, ipv4Of, malformedPeer, ipv6Peer}
-use Rattle.allocation_rules.specs.Allocations.{allocate, refresh}
+use Rattle.rules.specs.Values.{lifetime, anyUnknown, isIpv6, ipv4Of, malformedPeer, ipv6Peer}
+use Rattle.allocation_rules.specs.Allocations.{repeats, granted, toldAgain, newlyMade, allocate, refresh}
 use Rattle.permission_rules.specs.Permissions.{createPermission, channelBind}
 use Rattle.data_rules.specs.Data.{permitted, sentFrom, send, channelledFrom, sendChannelData, relayed, relayFromPeer}
 
@@ -58,9 +58,13 @@ respond-fits fiveTuple method s code accepted h = go (eqb code 0)
     go false = error-message-small method s code
 
 module _ (call : ClientCall) (s : List ℕ) where
-  pub allocate-fits : (room : Room) → Fits s (outOf (allocate call s room))
+  pub allocate-fits : (room : Room) (slot : Slot) → Fits s (outOf (allocate call s room slot))
   unfolding allocate
-  allocate-fits room = respond-fits _ _ s _ _ (allocate-small (transactionId s) _ _ _ _)
+  allocate-fits room slot = respond-fits _ _ s _ _ (go (repeats call s (room .own) slot))
+    where
+      go : (again : Bool) → Fits s (outOf (pick again (toldAgain call s slot) (newlyMade call s (room .port) (granted (lifetime s)))))
+      go true = allocate-small (transactionId s) _ _ _ _
+      go false = allocate-small (transactionId s) _ _ _ _
 
   pub refresh-fits : (own : Bool) (slot : Slot) → Fits s (outOf (refresh call s own slot))
   unfolding refresh

@@ -32,10 +32,18 @@ portsHeld time slots k (suc n) = has (find (inSlot (holdsPort time (49152 + k)))
 abbrev pub asRules : FromClient → ClientCall
 asRules call = record { time = call .time; user = call .user; relay = call .relay; «five_tuple» = call .«five_tuple» }
 
+-- the live slot of the caller's 5-tuple, the lowest
+abbrev pub ownPlace : FromClient → List Slot → Found
+ownPlace call slots = find (inSlot (holds (call .time) (call .«five_tuple»))) slots
+
+-- the slot at that place, or a fresh one
+abbrev pub slotIn : List Slot → Found → Slot
+slotIn slots place = atOr freshSlot place slots
+
 -- what Allocate asks
 abbrev pub roomFor : FromClient → List Slot → Room
 roomFor call slots = record {
-  own = has (find (inSlot (holds (call .time) (call .«five_tuple»))) slots);
+  own = has (ownPlace call slots);
   held = count (inSlot (holdsUser (call .time) (call .user))) slots;
   free = has (find (inSlot (lapsed (call .time))) slots);
   port = portFor (portsHeld (call .time) slots 0 128) (call .start);
@@ -49,16 +57,16 @@ pub record Decision : Type 0 where
 
 -- about the slot that was found: the rule is told whether there is one, and the slot, or a fresh one
 abbrev pub aboutFound : List Slot → Found → (Bool → Slot → Change) → Decision
-aboutFound slots found rule = record { place = found; change = rule (has found) (atOr freshSlot found slots) }
+aboutFound slots found rule = record { place = found; change = rule (has found) (slotIn slots found) }
 
--- the live slot of the 5-tuple
+-- about the caller's own
 abbrev pub aboutOwn : FromClient → List Slot → (Bool → Slot → Change) → Decision
-aboutOwn call slots rule = aboutFound slots (find (inSlot (holds (call .time) (call .«five_tuple»))) slots) rule
+aboutOwn call slots rule = aboutFound slots (ownPlace call slots) rule
 
--- Allocate is about 'the lowest such slot' that isn't live, everything else about the caller's own
+-- Allocate writes 'the lowest such slot' that isn't live, and answers a repeat from the caller's own; everything else is about the caller's own
 abbrev pub onAsked : FromClient → List ℕ → List Slot → Asked → Decision
 onAsked call s slots Asked.Allocate =
-    record { place = find (inSlot (lapsed (call .time))) slots; change = allocate (asRules call) s (roomFor call slots) }
+    record { place = find (inSlot (lapsed (call .time))) slots; change = allocate (asRules call) s (roomFor call slots) (slotIn slots (ownPlace call slots)) }
 onAsked call s slots Asked.Refresh = aboutOwn call slots (refresh (asRules call) s)
 onAsked call s slots Asked.CreatePermission = aboutOwn call slots (createPermission (asRules call) s)
 onAsked call s slots Asked.ChannelBind = aboutOwn call slots (channelBind (asRules call) s)

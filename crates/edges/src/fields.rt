@@ -1,5 +1,6 @@
 // The fields of a line, which tabs part. A field that isn't there is an empty one.
 use address::Address;
+use address::TransactionId;
 use address::TransportAddress;
 use text::Parsed;
 use text::read_decimal;
@@ -103,6 +104,24 @@ pub(crate) fn address(line: &[u8], k: usize) -> Address {
         word(line, from + 16),
         word(line, from + 24),
     )
+}
+
+// A transaction id of 24 hex digits; three zeros where there are fewer.
+pub(crate) fn transaction_id(line: &[u8], k: usize) -> TransactionId {
+    let from = field_start(line, k);
+    let to = stop(line, from, TAB);
+    if to - from < 24 {
+        return TransactionId {
+            high: 0,
+            middle: 0,
+            low: 0,
+        };
+    }
+    TransactionId {
+        high: word(line, from),
+        middle: word(line, from + 8),
+        low: word(line, from + 16),
+    }
 }
 
 // The address in one field and the port in another.

@@ -4,6 +4,7 @@ use crate::fields::number;
 use crate::fields::number_u8;
 use crate::fields::number_u16;
 use crate::fields::peer;
+use crate::fields::transaction_id;
 use address::Address;
 use address::FiveTuple;
 use address::TransportAddress;
@@ -17,6 +18,7 @@ use slot::fresh_slot;
 use slot::with_allocation;
 use slot::with_channels;
 use slot::with_permissions;
+use slot::with_transaction_id;
 use state::Bookkeeping;
 use state::fresh_bookkeeping;
 
@@ -58,7 +60,7 @@ fn with(held: Held, place: usize, slot: Slot) -> Held {
     made
 }
 
-// `A` place, user, client address, client port, relay port, expiry.
+// `A` place, user, client address, client port, relay port, expiry, transaction id.
 fn allocation(held: Held, line: &[u8]) -> Held {
     let server = TransportAddress {
         address: Address::V4(0xcb007105),
@@ -76,7 +78,12 @@ fn allocation(held: Held, line: &[u8]) -> Held {
         expiry: number(line, 6),
     };
     let slot = with_allocation(fresh_slot(), allocation);
-    with(held, number(line, 1) as usize, slot)
+    let id = transaction_id(line, 7);
+    with(
+        held,
+        number(line, 1) as usize,
+        with_transaction_id(slot, id),
+    )
 }
 
 // `E` place, entry, address, expiry: a permission in that entry; from 8 on, in every entry.

@@ -65,13 +65,20 @@ module _ (s : List ℕ) where
     unfolding ownCode
     owner has slot rest h = request _ (step _ 437 _ refl (step _ 441 _ refl h))
 
-    pub allocate-coded : (room : Room) → Coded s (allocateCode call s room)
+    -- a repeat is no error
+    again-step : (again : Bool) (rest : ℕ) → Coded s rest → Coded s (check again 0 rest)
+    unfolding check
+    again-step true rest h = none
+    again-step false rest h = h
+
+    pub allocate-coded : (again : Bool) (room : Room) → Coded s (allocateCode call s again room)
     unfolding allocateCode
-    allocate-coded room =
+    allocate-coded again room =
         request _
+        (again-step again _
         (step _ 437 _ refl
         (step _ 400 _ refl
-        (step _ 442 _ refl (step _ 400 _ refl (step _ 440 _ refl (step _ 400 _ refl (step _ 486 _ refl (step _ 508 _ refl none))))))))
+        (step _ 442 _ refl (step _ 400 _ refl (step _ 440 _ refl (step _ 400 _ refl (step _ 486 _ refl (step _ 508 _ refl none)))))))))
 
     pub refresh-coded : (has : Bool) (slot : Slot) → Coded s (refreshCode call s has slot)
     unfolding refreshCode

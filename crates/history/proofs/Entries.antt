@@ -21,7 +21,7 @@ use Rattle.slot.specs.declared.Placed.{Placed}
 use Rattle.slot.specs.declared.Found.{Found}
 use Rattle.slot.specs.declared.Found.the-variants.{At, Nothing}
 use Rattle.slot.specs.Search.{find, has, putAt, atOr}
-use Rattle.slot.specs.Slot.{freshPermission, freshChannel, permits, freePermission, permissionEntry, permit, numbered, leadsTo, freeChannel, peerTaken, channelEntry, bind}
+use Rattle.slot.specs.Slot.{freshPermission, freshChannel, withPermissions, withChannels, permits, freePermission, permissionEntry, permit, numbered, leadsTo, freeChannel, peerTaken, channelEntry, bind}
 use Rattle.permission_rules.specs.Permissions.{permitPeer, permitAll, bound}
 use Rattle.history.specs.Events.{addressesOf}
 use Rattle.history.specs.Statement.{permissionAt, channelAt, LiveChannel}
@@ -163,7 +163,7 @@ unfolding permit putAt
 permit-then t a xs was slot ok x = go (permissionEntry t a (was .permissions)) refl ok x
   where
     go : (f : Found) → permissionEntry t a (was .permissions) ≡ f → has f ≡ true
-        → Extends t xs (record { allocation = was .allocation; permissions = putAt f (newPermission t a) (was .permissions); channels = was .channels }) slot
+        → Extends t xs (withPermissions was (putAt f (newPermission t a) (was .permissions))) slot
         → Extends t (a ∷ xs) was slot
     go (At j) e ok x = record {
       allocation-is = x .allocation-is;
@@ -268,7 +268,7 @@ bound-admitted t n p was taken ok ok′ =
     go (permit t (p .address) was .slot) x (channelEntry t n (permit t (p .address) was .slot .channels)) refl ok′
   where
     go : (half : Slot) → Extends t (p .address ∷ []) was half → (f : Found) → channelEntry t n (half .channels) ≡ f → has f ≡ true
-        → Admits t (p .address ∷ []) was (record { allocation = half .allocation; permissions = half .permissions; channels = putAt f (newChannel t n p) (half .channels) })
+        → Admits t (p .address ∷ []) was (withChannels half (putAt f (newChannel t n p) (half .channels)))
     go half x Nothing e ok = absurd (false≢true ok)
     go half x (At m) e ok = record {
       allocation-is = x .allocation-is;

@@ -16,7 +16,7 @@ use Rattle.stun.specs.declared.message.Attribute.{Attribute}
 use Rattle.stun.specs.declared.values.AddressValue.{AddressValue}
 use Rattle.stun.specs.AttributeNumbers as attribute
 use Rattle.stun.specs.Message.{attributesFrom}
-use Rattle.stun.specs.Values.{addressAt, peersOf, peersFrom, peers, headOf, firstPeer}
+use Rattle.stun.specs.Values.{transactionId, addressAt, peersOf, peersFrom, peers, headOf, firstPeer}
 use Rattle.slot.specs.declared.Slot.{Slot}
 use Rattle.slot.specs.declared.Found.{Found}
 use Rattle.slot.specs.declared.Found.the-variants.{At, Nothing}
@@ -49,6 +49,7 @@ use Rattle.history.specs.Events.{TransportFits, CallFits, Arrival, next,
 use Rattle.history.specs.Fits.{PermissionFits, ChannelFits, SlotFits, StateFits}
 use Rattle.history.proofs.Entries.{all-fresh}
 use Rattle.history.proofs.FreePort.{port-fits}
+use Rattle.history.proofs.Replies.{id-fits}
 
 -- ---- An entry written into a list
 module _ {A : Type 0} (P : A → Type 0) (d x : A) (h : P x) where
@@ -74,13 +75,14 @@ fresh-fits : SlotFits freshSlot
 unfolding freshSlot
 fresh-fits = record {
   allocation = record { user = lit< tt; client = (lit< tt, lit< tt); server = (lit< tt, lit< tt); protocol = lit< tt; port = lit< tt; expiry = lit< tt };
+  transaction-id = (lit< tt, lit< tt, lit< tt);
   eight-permissions = refl;
   permissions = λ i. rw (all-fresh freshPermission 8 i) (record { address = lit< tt; expiry = lit< tt });
   eight-channels = refl;
   channels = λ i. rw (all-fresh freshChannel 8 i) (record { number = lit< tt; peer = (lit< tt, lit< tt); expiry = lit< tt });
 }
 
-found-fits : (found : Found) (l : List Slot) → ((i : ℕ) → SlotFits (slotAt l i)) → SlotFits (atOr freshSlot found l)
+pub found-fits : (found : Found) (l : List Slot) → ((i : ℕ) → SlotFits (slotAt l i)) → SlotFits (atOr freshSlot found l)
 unfolding atOr
 found-fits (At k) l f = f k
 found-fits Nothing l f = fresh-fits
@@ -118,6 +120,7 @@ module _ (t : ℕ) (soon : t ≤ 2 ^ 40) where
   unfolding permit
   permit-fits a slot h f = record {
     allocation = f .allocation;
+    transaction-id = f .transaction-id;
     eight-permissions = length-place (permissionEntry t a (slot .permissions)) _ (slot .permissions) ∙ f .eight-permissions;
     permissions =
         place-keeps PermissionFits freshPermission _ (record { address = h; expiry = omega arith }) (permissionEntry t a (slot .permissions)) (slot .permissions) (f .permissions);
@@ -129,6 +132,7 @@ module _ (t : ℕ) (soon : t ≤ 2 ^ 40) where
   unfolding bind
   bind-fits number peer slot n h f = record {
     allocation = f .allocation;
+    transaction-id = f .transaction-id;
     eight-permissions = f .eight-permissions;
     permissions = f .permissions;
     eight-channels = length-place (channelEntry t number (slot .channels)) _ (slot .channels) ∙ f .eight-channels;
@@ -160,6 +164,7 @@ module _ (t : ℕ) (soon : t ≤ 2 ^ 40) where
           let a = f .allocation in
           record {
             allocation = record { user = a .user; client = a .client; server = a .server; protocol = a .protocol; port = a .port; expiry = omega arith };
+            transaction-id = f .transaction-id;
             eight-permissions = f .eight-permissions;
             permissions = f .permissions;
             eight-channels = f .eight-channels;
@@ -171,10 +176,11 @@ WritesFit change = (slot : Slot) (out : Out) → change ≡ write slot out → S
 
 module _ (call : FromClient) (s : List ℕ) (l : List Slot) (fits : CallFits (Client call)) (bytes : Bytes s) (soon : call .time ≤ 2 ^ 40) (user : call .user ≤ 32)
     (were : (i : ℕ) → SlotFits (slotAt l i)) where
-  allocated-fits : (port seconds : ℕ) → port < 2 ^ 16 → seconds ≤ 3600 → SlotFits (allocated (asRules call) port seconds)
+  allocated-fits : (port seconds : ℕ) → port < 2 ^ 16 → seconds ≤ 3600 → SlotFits (allocated (asRules call) (transactionId s) port seconds)
   unfolding allocated
   allocated-fits port seconds p few = record {
     allocation = record { user = omega arith; client = fits .1; server = fits .2; protocol = fits .3; port = p; expiry = omega arith };
+    transaction-id = id-fits s bytes;
     eight-permissions = fresh-fits .eight-permissions;
     permissions = fresh-fits .permissions;
     eight-channels = fresh-fits .eight-channels;
@@ -192,7 +198,7 @@ module _ (call : FromClient) (s : List ℕ) (l : List Slot) (fits : CallFits (Cl
   asked-fits : (asked : Asked) → WritesFit (onAsked call s l asked .change)
   unfolding bound
   asked-fits Asked.Allocate slot out e =
-      rw (allocates (asRules call) s slot out (roomFor call l) e .slot-is) (allocated-fits _ _ (port-fits _ _) (granted-range (lifetime s) .1))
+      rw (allocates (asRules call) s slot out (roomFor call l) _ e .slot-is) (allocated-fits _ _ (port-fits _ _) (granted-range (lifetime s) .1))
   asked-fits Asked.Refresh slot out e =
       rw (refreshes (asRules call) s slot out _ _ e .slot-is)
       (refreshed-fits (call .time) soon _ (at-most _ (granted-refresh-range (lifetime s))) _ (found-fits _ l were))

@@ -42,6 +42,7 @@ by-slot now k v w f P a b i x = go (at? now k v w f i x)
 pub accounts-quiet : (now : ℕ) (v w : View) (h : List Counted) → Accounts now v h → Quiet now v w → Accounts now w h
 accounts-quiet now v w h I q = record {
   own = λ i j x y e. let p = q .after i x in let r = q .after j y in I .own i j (rw p at x) (rw r at y) (rw (p, r) at e);
+  short = λ i x. let p = q .after i x in rw p (I .short i (rw p at x));
   neat = λ i x. let p = q .after i x in rw p (I .neat i (rw p at x));
   given = λ i x. let p = q .after i x in rw p (I .given i (rw p at x));
   granted→ = λ i x t le y. let p = q .after i x in rw p (I .granted→ i (rw p at x) t le (rw p at y));
@@ -52,7 +53,7 @@ accounts-quiet now v w h I q = record {
 
 -- a call that counts for nothing
 accounts-nothing : (now : ℕ) (v : View) (h : List Counted) → Accounts now v h → Accounts now v (nothing ∷ h)
-accounts-nothing now v h I = record { own = I .own; neat = I .neat; given = I .given; granted→ = I .granted→; granted← = I .granted←; allowed→ = I .allowed→; allowed← = I .allowed← }
+accounts-nothing now v h I = record { own = I .own; short = I .short; neat = I .neat; given = I .given; granted→ = I .granted→; granted← = I .granted←; allowed→ = I .allowed→; allowed← = I .allowed← }
 
 module _ (now : ℕ) (v w : View) (h : List Counted) (I : Accounts now v h) where
   module _ (C : FiveTuple) (R n : ℕ) (c : Allot now v w C R n) where
@@ -68,6 +69,7 @@ module _ (now : ℕ) (v w : View) (h : List Counted) (I : Accounts now v h) wher
     keep-allot : Accounts now w (gave C R now n ∷ h)
     keep-allot = record {
       own = allot-own;
+      short = by-slot now (c .k) v w (c .frame) (λ i. w i .allocation .expiry ≤ now + 3600) (rw (c .until) (omega (arith, c .an-hour))) (λ i ne p x. rw p (I .short i x));
       neat = by-slot now (c .k) v w (c .frame) (λ i. Tidy now (w i)) (c .neat) (λ i ne p x. rw p (I .neat i x));
       given = by-slot now (c .k) v w (c .frame) (λ i. Given (gave C R now n ∷ h) (w i .allocation .«five_tuple») (w i .allocation .port)) (inl (c .who, c .port)) (λ i ne p x. rw p (inr (c .new-who i x, c .new-port i x, I .given i x)));
       granted→ = by-slot now (c .k) v w (c .frame) (λ i. (t : ℕ) → now ≤ t → t < w i .allocation .expiry → Granted (gave C R now n ∷ h) (w i .allocation .«five_tuple») t)
@@ -118,6 +120,7 @@ module _ (now : ℕ) (v w : View) (h : List Counted) (I : Accounts now v h) wher
   keep-renew : (C : FiveTuple) (n : ℕ) (c : Renew now v w C n) → Accounts now w (kept C now n ∷ h)
   keep-renew C n c = record {
     own = same-own (c .k) (c .frame) (c .live) (c .who);
+    short = by-slot now (c .k) v w (c .frame) (λ i. w i .allocation .expiry ≤ now + 3600) (rw (c .until) (omega (arith, c .an-hour))) (λ i ne p x. rw p (I .short i x));
     neat = by-slot now (c .k) v w (c .frame) (λ i. Tidy now (w i)) (rw (c .perms, c .chans) (I .neat (c .k) (c .live))) (λ i ne p x. rw p (I .neat i x));
     given = by-slot now (c .k) v w (c .frame) (λ i. Given h (w i .allocation .«five_tuple») (w i .allocation .port)) (rw (c .who, c .port) (I .given (c .k) (c .live))) (λ i ne p x. rw p (I .given i x));
     granted→ = by-slot now (c .k) v w (c .frame) (λ i. (t : ℕ) → now ≤ t → t < w i .allocation .expiry → Granted (kept C now n ∷ h) (w i .allocation .«five_tuple») t)
@@ -139,6 +142,7 @@ module _ (now : ℕ) (v w : View) (h : List Counted) (I : Accounts now v h) wher
   keep-end : (C : FiveTuple) (n : ℕ) (c : End now v w C n) → Accounts now w (kept C now n ∷ h)
   keep-end C n c = record {
     own = λ i j x y e. let p = at i x in let r = at j y in I .own i j (p .2) (r .2) (rw (p .1, r .1) at e);
+    short = λ i x. let p = at i x in rw (p .1) (I .short i (p .2));
     neat = λ i x. let p = at i x in rw (p .1) (I .neat i (p .2));
     given = λ i x. let p = at i x in rw (p .1) (I .given i (p .2));
     granted→ = λ i x t le y. let p = at i x in rw (p .1) (inr (ne i (p .0) (p .2), I .granted→ i (p .2) t le (rw (p .1) at y)));
@@ -164,6 +168,7 @@ module _ (now : ℕ) (v w : View) (h : List Counted) (I : Accounts now v h) wher
   keep-admit : (C : FiveTuple) (xs : List Address) (c : Admit now v w C xs) → Accounts now w (allowed C xs (now + 300) ∷ h)
   keep-admit C xs c = record {
     own = same-own (c .k) (c .frame) (c .live) (c .who);
+    short = by-slot now (c .k) v w (c .frame) (λ i. w i .allocation .expiry ≤ now + 3600) (rw (c .until) (I .short (c .k) (c .live))) (λ i ne p x. rw p (I .short i x));
     neat = by-slot now (c .k) v w (c .frame) (λ i. Tidy now (w i)) (c .neat (I .neat (c .k) (c .live))) (λ i ne p x. rw p (I .neat i x));
     given = by-slot now (c .k) v w (c .frame) (λ i. Given h (w i .allocation .«five_tuple») (w i .allocation .port)) (rw (c .who, c .port) (I .given (c .k) (c .live))) (λ i ne p x. rw p (I .given i x));
     granted→ = by-slot now (c .k) v w (c .frame) (λ i. (t : ℕ) → now ≤ t → t < w i .allocation .expiry → Granted h (w i .allocation .«five_tuple») t)

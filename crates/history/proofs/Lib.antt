@@ -10,10 +10,11 @@ pub mod Made
 pub mod Whole
 pub mod Demand
 pub mod Codes
-pub mod ReadBack
 pub mod Fits
+pub mod ReadBack
 pub mod Own
 pub mod Corollaries
+pub mod Repeats
 pub mod Shut
 pub mod Lines
 pub mod Sample

@@ -1,7 +1,7 @@
 -- Every call's act is a change of the table that what it counts as allows.
-use Prim.Native.Nat.{ℕ, _+_, _<_, _≤_, _^_}
+use Prim.Native.Nat.{ℕ, _+_, _<_, _≤_}
 use mathlib.Core.Path.{_≡_, refl, sym, _∙_}
-use mathlib.Core.Logic.{_≢_, _⊎_, inl, inr}
+use mathlib.Core.Logic.{_⊎_, inl, inr}
 use mathlib.Core.Bool.{Bool, true, false, not, false≢true}
 use mathlib.Core.List.{List}
 use native.Mathlib.Omega.{arith}
@@ -21,7 +21,7 @@ use Rattle.stun.specs.declared.channel_data.ChannelMessage.{ChannelMessage}
 use Rattle.stun.specs.declared.channel_data.ChannelMessage.the-variants.{Data, Malformed}
 use Rattle.stun.specs.AttributeNumbers as attribute
 use Rattle.stun.specs.Message.{attributes, firstOf, channelDataOf}
-use Rattle.stun.specs.Values.{peers, firstPeer}
+use Rattle.stun.specs.Values.{transactionId, peers, firstPeer}
 use Rattle.slot.specs.declared.Slot.{Slot}
 use Rattle.slot.specs.declared.Found.{Found}
 use Rattle.slot.specs.declared.Found.the-variants.{At, Nothing}
@@ -31,30 +31,32 @@ use Rattle.table.specs.Table.{slotAt, inSlot, lapsed}
 use Rattle.rules.specs.declared.requests.ClientCall.{ClientCall}
 use Rattle.rules.specs.Change.{Out, dropped, toClient, toPeer, Change, keep, write, errorMessage, respond}
 use Rattle.rules.specs.Values.{lifetime, channelNumber, numberGiven, anyUnknown, malformedPeer, ipv6Peer}
-use Rattle.allocation_rules.specs.Allocations.{allocated, allocate, renewed, refreshed, refresh, granted, grantedRefresh}
+use Rattle.allocation_rules.specs.Allocations.{repeats, allocateCode, allocated, toldAgain, newlyMade, allocate, renewed, refreshed, refresh, granted, grantedRefresh}
 use Rattle.permission_rules.specs.Permissions.{createPermission, channelBind}
 use Rattle.data_rules.specs.Data.{permitted, sentFrom, send, channelledFrom, sendChannelData}
 use Rattle.decisions.specs.declared.client.Asked.{Asked}
 use Rattle.decisions.specs.declared.client.Asked.the-variants as Asked
 use Rattle.decisions.specs.Client.{askedBy}
 use Rattle.rules.proofs.Laws.{kept-not-written}
+use Rattle.allocation_rules.proofs.Laws.{repeats-own}
 use Rattle.decisions.proofs.Accepted.{allocates, refreshes, permits, binds, granted-range, granted-refresh-range}
 use Rattle.interface.specs.declared.incoming.Call.the-variants.{Client}
 use Rattle.interface.specs.declared.incoming.FromClient.{FromClient}
 use Rattle.state.specs.State.{State, withSlots}
 use Rattle.state.specs.Outcomes.{Act, accept, outcomeOf, replyAfter, stateAfter}
-use Rattle.decisions.specs.Decisions.{asRules, roomFor, onAsked}
+use Rattle.decisions.specs.Decisions.{asRules, ownPlace, slotIn, roomFor, onAsked}
 use Rattle.state.specs.Step.{done}
 use Rattle.client_reader.specs.Fields.{Bytes}
+use Rattle.history.specs.Counted.{Counted, withoutRepeats}
 use Rattle.history.specs.Events.{CallFits, countsBy}
 use Rattle.history.specs.Statement.{Live}
 use Rattle.history.proofs.Table as table
-use Rattle.history.proofs.Table.{View, Frame, Quiet}
-use Rattle.history.proofs.Tests.{find-some, has-not, own-is, lapsed-is, none-own, none-port}
+use Rattle.history.proofs.Table.{View, Frame, Quiet, Accounts, has-lifetime, no-lifetime}
+use Rattle.history.proofs.Tests.{find-some, has-not, has-at, own-is, lapsed-is, none-own, none-port}
 use Rattle.history.proofs.Entries.{Admits, all-admitted, bound-admitted, fresh-bare, fresh-neat}
 use Rattle.history.proofs.Asking.{asks-for}
 use Rattle.history.proofs.FreePort.{port-free, port-fits}
-use Rattle.history.proofs.Replies.{Unaccepted, dropped-unaccepted, to-peer-unaccepted, error-unaccepted, allocate-counts, refresh-counts, permission-counts, channel-counts}
+use Rattle.history.proofs.Replies.{Unaccepted, dropped-unaccepted, to-peer-unaccepted, error-unaccepted, allocate-counts, refresh-counts, permission-counts, channel-counts, left-out}
 
 pub quiet : (t : ℕ) (v : View) → Quiet t v v
 quiet t v = record { before = λ i x. refl; after = λ i x. refl }
@@ -87,13 +89,18 @@ pick-unaccepted : (b : Bool) (out : Out) → Unaccepted out → Unaccepted (pick
 pick-unaccepted true out u = dropped-unaccepted
 pick-unaccepted false out u = u
 
-module _ (call : FromClient) (st : State) (s reply : List ℕ) (full : length (st .slots) ≡ 64) (fits : CallFits (Client call)) (bytes : Bytes s) where
+module _ (call : FromClient) (st : State) (s reply : List ℕ) (full : length (st .slots) ≡ 64) (fits : CallFits (Client call)) (bytes : Bytes s)
+    (past : List Counted) (I : Accounts (call .time) (slotAt (st .slots)) past) where
   abbrev l : List Slot
   l = st .slots
 
+  -- the caller's own slot, or a fresh one
+  abbrev own : Slot
+  own = slotIn l (ownPlace call l)
+
   -- what an act does to the table, and what it counts as
   abbrev pub Made : Act → Type 0
-  Made x = table.Change (call .time) (slotAt l) (slotAt (stateAfter st x .slots)) (countsBy (Client call) s (outcomeOf x) (replyAfter reply x))
+  Made x = table.Change (call .time) (slotAt l) (slotAt (stateAfter st x .slots)) (withoutRepeats past (countsBy (Client call) s (outcomeOf x) (replyAfter reply x)))
 
   -- a slot of the table is written
   abbrev put : ℕ → Slot → Out → Act
@@ -103,11 +110,11 @@ module _ (call : FromClient) (st : State) (s reply : List ℕ) (full : length (s
   made-stay out u = rw (u .counts call s reply) (quiet (call .time) (slotAt l))
 
   -- where no slot was found nothing is written
-  made-done : (found : Found) (change : Change) → Keeps change → ((slot : Slot) (out : Out) → change ≡ write slot out → has found ≡ true)
+  made-done : (found : Found) (change : Change) → ((out : Out) → change ≡ keep out → Made (accept st out)) → ((slot : Slot) (out : Out) → change ≡ write slot out → has found ≡ true)
       → ((k : ℕ) → found ≡ At k → (slot : Slot) (out : Out) → change ≡ write slot out → Made (put k slot out)) → Made (done st found change)
-  made-done (At k) (keep out) q h f = made-stay out (q .quietly out refl)
+  made-done (At k) (keep out) q h f = q out refl
   made-done (At k) (write slot out) q h f = f k refl slot out refl
-  made-done Nothing (keep out) q h f = made-stay out (q .quietly out refl)
+  made-done Nothing (keep out) q h f = q out refl
   made-done Nothing (write slot out) q h f = absurd (false≢true (h slot out refl))
 
   put-frame : (k : ℕ) (slot : Slot) → Frame (call .time) k (slotAt l) (slotAt (set l k slot))
@@ -118,37 +125,56 @@ module _ (call : FromClient) (st : State) (s reply : List ℕ) (full : length (s
 
   -- ---- Allocate
   module _ (asked : askedBy s ≡ Asked.Allocate) (k : ℕ) (found : find (inSlot (lapsed (call .time))) l ≡ At k) (slot : Slot) (out : Out)
-      (e : allocate (asRules call) s (roomFor call l) ≡ write slot out) where
+      (e : allocate (asRules call) s (roomFor call l) own ≡ write slot out) where
     takes : Made (put k slot out)
     unfolding allocated freshSlot
     takes =
-        let r = allocates (asRules call) s slot out (roomFor call l) e in
+        let r = allocates (asRules call) s slot out (roomFor call l) own e in
+        let new = none-own (call .time) (call .«five_tuple») l (has-not _ (r .new)) in
         let f = find-some (inSlot (lapsed (call .time))) l freshSlot k found in
         let range = granted-range (lifetime s) in
         let port = roomFor call l .port in
-        let is : slotAt (set l k slot) k ≡ allocated (asRules call) port (granted (lifetime s)) = put-same k slot (f .1) ∙ r .slot-is in
-        rw (r .out-is, allocate-counts call s reply bytes port (granted (lifetime s)) (fits .0) (port-fits _ _) (omega arith) (fits .1) (asks-for Allocate s asked)) (
+        let is : slotAt (set l k slot) k ≡ allocated (asRules call) (transactionId s) port (granted (lifetime s)) = put-same k slot (f .1) ∙ r .slot-is in
+        rw (r .out-is, allocate-counts call s reply bytes port (granted (lifetime s)) (fits .0) (port-fits _ _) (omega arith) (fits .1) (asks-for Allocate s asked), no-lifetime _ _ past I (call .«five_tuple») new) (
           refl,
           record {
             k = k;
             frame = put-frame k slot;
             free = λ x. let y = lapsed-is (call .time) (slotAt l k) (f .0) in omega arith;
-            new-who = none-own (call .time) (call .«five_tuple») l (has-not _ (r .new));
+            new-who = new;
             new-port = none-port (call .time) port l (port-free (call .time) (call .start) l full);
             who = rw is;
             port = rw is;
             until = rw is;
             some-time = λ (z : granted (lifetime s) ≡ 0). omega arith;
+            an-hour = range .1;
             bare = rw is (fresh-bare 8);
             neat = rw is (fresh-neat 8 8 (call .time));
           },
         )
 
-  made-allocate : askedBy s ≡ Asked.Allocate → Made (done st (find (inSlot (lapsed (call .time))) l) (allocate (asRules call) s (roomFor call l)))
+  -- a repeat's client has a live slot, and so a lifetime that lasts
+  repeated-made : askedBy s ≡ Asked.Allocate → repeats (asRules call) s (has (ownPlace call l)) own ≡ true → (out : Out) → Made (accept st out)
+  repeated-made asked again out =
+      let f = has-at _ (repeats-own _ s _ own again) in
+      let o = own-is (call .time) (call .«five_tuple») (slotAt l (f .0)) (find-some (inSlot (holds (call .time) (call .«five_tuple»))) l freshSlot (f .0) (f .1) .0) in
+      rw (left-out call s past (asks-for Allocate s asked) (has-lifetime _ _ past I (call .«five_tuple») (f .0) (o .0) (o .1)) out reply)
+      (quiet (call .time) (slotAt l))
+
+  allocate-stays : askedBy s ≡ Asked.Allocate → (out : Out) → allocate (asRules call) s (roomFor call l) own ≡ keep out → Made (accept st out)
   unfolding allocate
+  allocate-stays asked out e = go (repeats (asRules call) s (has (ownPlace call l)) own) refl e
+    where
+      go : (again : Bool) → repeats (asRules call) s (has (ownPlace call l)) own ≡ again
+          → respond (call .«five_tuple») Allocate s (allocateCode (asRules call) s again (roomFor call l)) (pick again (toldAgain (asRules call) s own) (newlyMade (asRules call) s (roomFor call l .port) (granted (lifetime s)))) ≡ keep out
+          → Made (accept st out)
+      go true is q = repeated-made asked is out
+      go false is q = made-stay out (respond-keeps _ _ s _ _ _ .quietly out q)
+
+  made-allocate : askedBy s ≡ Asked.Allocate → Made (done st (find (inSlot (lapsed (call .time))) l) (allocate (asRules call) s (roomFor call l) own))
   made-allocate asked =
-      made-done (find (inSlot (lapsed (call .time))) l) (allocate (asRules call) s (roomFor call l)) (respond-keeps _ _ s _ _ _)
-      (λ slot out e. allocates (asRules call) s slot out (roomFor call l) e .room)
+      made-done (find (inSlot (lapsed (call .time))) l) (allocate (asRules call) s (roomFor call l) own) (allocate-stays asked)
+      (λ slot out e. allocates (asRules call) s slot out (roomFor call l) own e .room)
       (takes asked)
 
   -- ---- The requests about the caller's own slot
@@ -158,15 +184,15 @@ module _ (call : FromClient) (st : State) (s reply : List ℕ) (full : length (s
     unfolding refreshed renewed freshSlot
     refreshed-made asked e =
         let r = refreshes (asRules call) s slot out own (slotAt l k) e in
-        rw (r .out-is, refresh-counts call s reply bytes seconds (small (granted-refresh-range (lifetime s))) (asks-for Refresh s asked))
+        rw (r .out-is, refresh-counts call s reply bytes seconds (omega (arith, short (granted-refresh-range (lifetime s)))) (asks-for Refresh s asked))
         (refl, go (eqb seconds 0) refl (put-same k slot room ∙ r .slot-is))
       where
         seconds : ℕ
         seconds = grantedRefresh (lifetime s)
 
-        small : (seconds ≡ 0) ⊎ ((600 ≤ seconds) × (seconds ≤ 3600)) → seconds < 2 ^ 32
-        small (inl z) = omega arith
-        small (inr z) = omega arith
+        short : (seconds ≡ 0) ⊎ ((600 ≤ seconds) × (seconds ≤ 3600)) → seconds ≤ 3600
+        short (inl z) = omega arith
+        short (inr z) = z .1
 
         go : (b : Bool) → eqb seconds 0 ≡ b → slotAt (set l k slot) k ≡ pick b freshSlot (renewed (call .time + seconds) (slotAt l k))
             → table.Renew (call .time) (slotAt l) (slotAt (set l k slot)) (call .«five_tuple») seconds
@@ -186,6 +212,7 @@ module _ (call : FromClient) (st : State) (s reply : List ℕ) (full : length (s
               chans = rw is;
               until = rw is;
               some-time = eqb-false _ _ z;
+              an-hour = short (granted-refresh-range (lifetime s));
             })
 
     -- a request for these addresses made this slot
@@ -220,7 +247,7 @@ module _ (call : FromClient) (st : State) (s reply : List ℕ) (full : length (s
         (refl, admitted _ _ (r .slot-is) (bound-admitted (call .time) (numberGiven (channelNumber s)) (firstPeer s .peer) (slotAt l k) (r .peer-free) (r .permitted) (r .bound-ok)))
 
 -- ---- What is given out without a change of the slot counts as nothing
-send-unaccepted : (call : ClientCall) (s : List ℕ) (own : Bool) (slot : Slot) → Unaccepted (send call s own slot)
+pub send-unaccepted : (call : ClientCall) (s : List ℕ) (own : Bool) (slot : Slot) → Unaccepted (send call s own slot)
 unfolding send
 send-unaccepted call s own slot =
     let place = firstOf attribute.«data» (attributes s) in
@@ -238,7 +265,7 @@ send-unaccepted call s own slot =
     payload (Value start len) = to-peer-unaccepted _ _ start len
     payload Absent = dropped-unaccepted
 
-channelled-unaccepted : (call : ClientCall) (s : List ℕ) (own : Bool) (slot : Slot) → Unaccepted (sendChannelData call s own slot)
+pub channelled-unaccepted : (call : ClientCall) (s : List ℕ) (own : Bool) (slot : Slot) → Unaccepted (sendChannelData call s own slot)
 unfolding sendChannelData
 channelled-unaccepted call s own slot = go (channelDataOf s)
   where
@@ -250,12 +277,13 @@ channelled-unaccepted call s own slot = go (channelDataOf s)
     go Malformed = dropped-unaccepted
 
 -- ---- A client's datagram
-module _ (call : FromClient) (st : State) (s reply : List ℕ) (full : length (st .slots) ≡ 64) (fits : CallFits (Client call)) (bytes : Bytes s) where
+module _ (call : FromClient) (st : State) (s reply : List ℕ) (full : length (st .slots) ≡ 64) (fits : CallFits (Client call)) (bytes : Bytes s)
+    (past : List Counted) (I : Accounts (call .time) (slotAt (st .slots)) past) where
   found : Found
-  found = find (inSlot (holds (call .time) (call .«five_tuple»))) (st .slots)
+  found = ownPlace call (st .slots)
 
   abbrev Makes : Act → Type 0
-  Makes x = Made call st s reply full fits bytes x
+  Makes x = Made call st s reply full fits bytes past I x
 
   -- a rule about the caller's own slot, which writes it only where there is one
   made-own : (rule : Bool → Slot → Change) → Keeps (rule (has found) (atOr freshSlot found (st .slots)))
@@ -264,7 +292,9 @@ module _ (call : FromClient) (st : State) (s reply : List ℕ) (full : length (s
       → (slot : Slot) (out : Out) → rule true (slotAt (st .slots) k) ≡ write slot out → Makes (accept (withSlots (set (st .slots) k slot) st) out))
       → Makes (done st found (rule (has found) (atOr freshSlot found (st .slots))))
   unfolding found atOr
-  made-own rule q h f = made-done call st s reply full fits bytes found (rule (has found) (atOr freshSlot found (st .slots))) q h at
+  made-own rule q h f =
+      made-done call st s reply full fits bytes past I found (rule (has found) (atOr freshSlot found (st .slots)))
+      (λ out e. made-stay call st s reply full fits bytes past I out (q .quietly out e)) h at
     where
       at : (k : ℕ) → found ≡ At k → (slot : Slot) (out : Out) → rule (has found) (atOr freshSlot found (st .slots)) ≡ write slot out
           → Makes (accept (withSlots (set (st .slots) k slot) st) out)
@@ -280,16 +310,16 @@ module _ (call : FromClient) (st : State) (s reply : List ℕ) (full : length (s
 
   pub made-asked : (asked : Asked) → askedBy s ≡ asked → Makes (done st (onAsked call s (st .slots) asked .place) (onAsked call s (st .slots) asked .change))
   unfolding found refresh createPermission channelBind
-  made-asked Asked.Allocate is = made-allocate call st s reply full fits bytes is
+  made-asked Asked.Allocate is = made-allocate call st s reply full fits bytes past I is
   made-asked Asked.Refresh is =
       made-own (refresh (asRules call) s) (respond-keeps _ _ s _ _ _) (λ slot out e. refreshes (asRules call) s slot out _ _ e .owner .live)
-      (λ k room live mine slot out e. refreshed-made call st s reply full fits bytes k room live mine true slot out is e)
+      (λ k room live mine slot out e. refreshed-made call st s reply full fits bytes past I k room live mine true slot out is e)
   made-asked Asked.CreatePermission is =
       made-own (createPermission (asRules call) s) (respond-keeps _ _ s _ _ _) (λ slot out e. permits (asRules call) s slot out _ _ e .owner .live)
-      (λ k room live mine slot out e. permitted-made call st s reply full fits bytes k room live mine true slot out is e)
+      (λ k room live mine slot out e. permitted-made call st s reply full fits bytes past I k room live mine true slot out is e)
   made-asked Asked.ChannelBind is =
       made-own (channelBind (asRules call) s) (respond-keeps _ _ s _ _ _) (λ slot out e. binds (asRules call) s slot out _ _ e .owner .live)
-      (λ k room live mine slot out e. bound-made call st s reply full fits bytes k room live mine true slot out is e)
+      (λ k room live mine slot out e. bound-made call st s reply full fits bytes past I k room live mine true slot out is e)
   made-asked Asked.Send is = made-data (send (asRules call) s) (send-unaccepted (asRules call) s)
   made-asked Asked.ChannelData is = made-data (sendChannelData (asRules call) s) (channelled-unaccepted (asRules call) s)
-  made-asked Asked.Nothing is = made-stay call st s reply full fits bytes dropped dropped-unaccepted
+  made-asked Asked.Nothing is = made-stay call st s reply full fits bytes past I dropped dropped-unaccepted

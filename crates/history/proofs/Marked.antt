@@ -1,4 +1,4 @@
--- Document 01's marked cases, 'Both sides of each edge': each is the last of a list of calls to a fresh relay, and one table has what each
+-- Document 01's marked cases, 'Both sides of each edge', and a repeated Allocate: each is the last of a list of calls to a fresh relay, and one table has what each
 -- does: the clock and all slots afterwards, and the bytes that go to the client. Computed through the whole step.
 use Prim.Native.Nat.{ℕ, _+_}
 use mathlib.Core.Path.{_≡_, refl}
@@ -9,7 +9,7 @@ use Rattle.choice.specs.Choice.{both}
 use Rattle.address.specs.declared.Address.the-variants.{V4}
 use Rattle.address.specs.declared.FiveTuple.{FiveTuple}
 use Rattle.address.specs.declared.TransportAddress.{TransportAddress}
-use Rattle.address.specs.Address.{sameAddress, sameTransportAddress, sameFiveTuple}
+use Rattle.address.specs.Address.{sameAddress, sameTransportAddress, sameFiveTuple, sameTransactionId}
 use Rattle.stun.specs.Kinds.{attributeKindOf}
 use Rattle.stun.specs.Message.{sorted, nextAt, stepAt, walkF, walk, wellFormed, isIntegrity, isUnknown, attributesFrom, firstOf, unknownNumbers, unknownTypes}
 use Rattle.stun.specs.Values.{transactionId, v4At, addressAt, peersOf, peersFrom, firstPeer, numberValue}
@@ -17,12 +17,12 @@ use Rattle.messages.specs.Messages.{errorResponse, allocateSuccess, refreshSucc
 use Rattle.slot.specs.declared.Permission.{Permission}
 use Rattle.slot.specs.declared.Channel.{Channel}
 use Rattle.slot.specs.Search.{find, entry, putAt, atOr}
-use Rattle.slot.specs.Slot.{liveAllocation, livePermission, liveChannel, freshPermission, freshChannel, freshSlot, isChannelNumber, holds, holdsUser, holdsPort, permits, freePermission, permissionEntry, permit, numbered, leadsTo, numberTaken, peerTaken, freeChannel, channelEntry, bind}
+use Rattle.slot.specs.Slot.{liveAllocation, livePermission, liveChannel, freshTransactionId, freshPermission, freshChannel, freshSlot, isChannelNumber, holds, holdsUser, holdsPort, permits, freePermission, permissionEntry, permit, numbered, leadsTo, numberTaken, peerTaken, freeChannel, channelEntry, bind}
 use Rattle.table.specs.Table.{count}
-use Rattle.rules.specs.Change.{dropped, toClient, check, errorMessage, respond}
+use Rattle.rules.specs.Change.{Out, dropped, toClient, check, errorMessage, respond}
 use Rattle.rules.specs.Values.{anyUnknown, any, malformedPeer, ipv6Peer}
 use Rattle.rules.specs.Requests.{requestCode, ownCode}
-use Rattle.allocation_rules.specs.Allocations.{allocateCode, allocated, allocate, refreshCode, renewed, refreshed, refresh, firstFree, portFor}
+use Rattle.allocation_rules.specs.Allocations.{repeats, allocateCode, allocated, secondsLeft, allocate, refreshCode, renewed, refreshed, refresh, firstFree, portFor}
 use Rattle.permission_rules.specs.Permissions.{permitPeer, permitAll, createPermissionCode, createPermission, bound, channelBindCode, channelBind}
 use Rattle.data_rules.specs.Data.{permitted, relayed, relayFromPeer}
 use Rattle.decisions.specs.Client.{askedBy}
@@ -68,8 +68,11 @@ Arrival = Call × List ℕ
 abbrev request : (time : ℕ) → List ℕ → Arrival
 request time datagram = (clientDatagram time 3 5 0xcb007105 client, datagram)
 
+abbrev allocateAt : (time seconds : ℕ) → Arrival
+allocateAt time seconds = request time (header 0 3 16 ++ transport ++ lifetime seconds)
+
 abbrev allocateWith : ℕ → Arrival
-allocateWith seconds = request 1000 (header 0 3 16 ++ transport ++ lifetime seconds)
+allocateWith seconds = allocateAt 1000 seconds
 
 abbrev refreshWith : ℕ → Arrival
 refreshWith seconds = request 1010 (header 0 4 8 ++ lifetime seconds)
@@ -99,6 +102,7 @@ after st (arrival ∷ rest) = after (stateAfter st (does st arrival)) rest
 abbrev holding : (time expiry : ℕ) → List Permission → List Channel → State
 holding time expiry permissions channels = state (record {
   allocation = record { user = 3; «five_tuple» = client; port = 49157; expiry = expiry };
+  «transaction_id» = freshTransactionId;
   permissions = permissions;
   channels = channels;
 } ∷ replicate 63 freshSlot) (record { clock = time })
@@ -117,11 +121,14 @@ unbound = replicate 8 freshChannel
 abbrev bound1010 : ℕ → List Channel
 bound1010 number = record { number = number; peer = source; expiry = 1610 } ∷ replicate 7 freshChannel
 
--- the allocation for so many seconds, and XOR-RELAYED-ADDRESS, LIFETIME, XOR-MAPPED-ADDRESS
-abbrev allocates : ℕ → Act
-allocates seconds =
-    accept (holding 1000 (1000 + seconds) unpermitted unbound)
-    (toClient client (header 1 3 32 ++ (0 ∷ 0x16 ∷ 0 ∷ 8 ∷ 0 ∷ 1 ∷ 0xe1 ∷ 0x17 ∷ 0xea ∷ 0x12 ∷ 0xd5 ∷ 0x47 ∷ []) ++ lifetime seconds ++ (0 ∷ 0x20 ∷ 0 ∷ 8 ∷ 0 ∷ 1 ∷ 0xbd ∷ 0x52 ∷ 0xe7 ∷ 0x21 ∷ 0xc0 ∷ 0x45 ∷ [])))
+-- XOR-RELAYED-ADDRESS, LIFETIME, XOR-MAPPED-ADDRESS
+abbrev told : ℕ → Out
+told seconds =
+    toClient client (header 1 3 32 ++ (0 ∷ 0x16 ∷ 0 ∷ 8 ∷ 0 ∷ 1 ∷ 0xe1 ∷ 0x17 ∷ 0xea ∷ 0x12 ∷ 0xd5 ∷ 0x47 ∷ []) ++ lifetime seconds ++ (0 ∷ 0x20 ∷ 0 ∷ 8 ∷ 0 ∷ 1 ∷ 0xbd ∷ 0x52 ∷ 0xe7 ∷ 0x21 ∷ 0xc0 ∷ 0x45 ∷ []))
+
+-- the allocation for so many seconds
+abbrev allocates : (time seconds : ℕ) → Act
+allocates time seconds = accept (holding time (time + seconds) unpermitted unbound) (told seconds)
 
 abbrev refreshes : State → ℕ → Act
 refreshes next seconds = accept next (toClient client (header 1 4 8 ++ lifetime seconds))
@@ -149,11 +156,14 @@ permission = allocateWith 600 ∷ permit1010 ∷ []
 
 pub record Marked : Type 0 where
   -- 'Allocate LIFETIME 0 gives 600, 600 gives 600, 601 gives 601, 3600 and 3601 give 3600'
-  pub allocate-0 : Then [] (allocateWith 0) (allocates 600)
-  pub allocate-600 : Then [] (allocateWith 600) (allocates 600)
-  pub allocate-601 : Then [] (allocateWith 601) (allocates 601)
-  pub allocate-3600 : Then [] (allocateWith 3600) (allocates 3600)
-  pub allocate-3601 : Then [] (allocateWith 3601) (allocates 3600)
+  pub allocate-0 : Then [] (allocateWith 0) (allocates 1000 600)
+  pub allocate-600 : Then [] (allocateWith 600) (allocates 1000 600)
+  pub allocate-601 : Then [] (allocateWith 601) (allocates 1000 601)
+  pub allocate-3600 : Then [] (allocateWith 3600) (allocates 1000 3600)
+  pub allocate-3601 : Then [] (allocateWith 3601) (allocates 1000 3600)
+  -- request 1: the same Allocate again is told the second that is left, and where none is, it is a new one
+  pub repeat-1599 : Then allocation (allocateAt 1599 600) (accept (holding 1599 1600 unpermitted unbound) (told 1))
+  pub repeat-1600 : Then allocation (allocateAt 1600 600) (allocates 1600 600)
   -- 'Refresh 0 gives 0, 1 gives 600'
   pub refresh-0 : Then allocation (refreshWith 0) (refreshes (state (replicate 64 freshSlot) (record { clock = 1010 })) 0)
   pub refresh-1 : Then allocation (refreshWith 1) (refreshes (holding 1010 1610 unpermitted unbound) 600)
@@ -168,13 +178,15 @@ pub record Marked : Type 0 where
   pub permission-1310 : Then permission (dataAt 1310) (accept (holding 1310 1600 permitted1010 unbound) dropped)
 
 pub marked : Marked
-unfolding act refusal decided accepted portsHeld askedBy permitted relayed relayFromPeer requestCode ownCode allocateCode allocated allocate refreshCode renewed refreshed refresh permitPeer permitAll createPermissionCode createPermission bound channelBindCode channelBind firstFree portFor anyUnknown any malformedPeer ipv6Peer check errorMessage respond liveAllocation livePermission liveChannel freshSlot isChannelNumber holds holdsUser holdsPort permits freePermission permissionEntry permit numbered leadsTo numberTaken peerTaken freeChannel channelEntry bind find entry putAt atOr count errorResponse allocateSuccess refreshSuccess bareSuccess dataIndication transactionId v4At addressAt peersOf peersFrom firstPeer numberValue sorted nextAt stepAt walkF walk wellFormed isIntegrity isUnknown attributesFrom firstOf unknownNumbers unknownTypes attributeKindOf sameAddress sameTransportAddress sameFiveTuple both num bytesOf
+unfolding act refusal decided accepted portsHeld askedBy permitted relayed relayFromPeer requestCode ownCode repeats allocateCode allocated secondsLeft allocate refreshCode renewed refreshed refresh permitPeer permitAll createPermissionCode createPermission bound channelBindCode channelBind firstFree portFor anyUnknown any malformedPeer ipv6Peer check errorMessage respond liveAllocation livePermission liveChannel freshSlot isChannelNumber holds holdsUser holdsPort permits freePermission permissionEntry permit numbered leadsTo numberTaken peerTaken freeChannel channelEntry bind find entry putAt atOr count errorResponse allocateSuccess refreshSuccess bareSuccess dataIndication transactionId v4At addressAt peersOf peersFrom firstPeer numberValue sorted nextAt stepAt walkF walk wellFormed isIntegrity isUnknown attributesFrom firstOf unknownNumbers unknownTypes attributeKindOf sameAddress sameTransportAddress sameFiveTuple sameTransactionId both num bytesOf
 marked = record {
   allocate-0 = refl;
   allocate-600 = refl;
   allocate-601 = refl;
   allocate-3600 = refl;
   allocate-3601 = refl;
+  repeat-1599 = refl;
+  repeat-1600 = refl;
   refresh-0 = refl;
   refresh-1 = refl;
   channel-3fff = refl;

@@ -2,7 +2,7 @@
 use Prim.Native.Nat.{ℕ, _+_, _-_, _≤_, _<_, _^_}
 use mathlib.Core.Path.{_≡_, refl, sym, ap, _∙_}
 use mathlib.Core.Logic.{_⊎_, inl, inr}
-use mathlib.Core.Bool.{Bool, true, false, not, false≢true}
+use mathlib.Core.Bool.{Bool, true, false, not, true≢false, false≢true}
 use mathlib.Core.List.{List, []}
 use native.Mathlib.Omega.{arith}
 use lib.Dec.{eqb, lit<}
@@ -28,8 +28,9 @@ use Rattle.messages.specs.Messages.{allocateSuccess, refreshSuccess, bareSucces
 use Rattle.slot.specs.declared.Slot.{Slot}
 use Rattle.slot.specs.declared.Found.{Found}
 use Rattle.slot.specs.declared.Found.the-variants.{At, Nothing}
-use Rattle.slot.specs.Search.{find, has, atOr}
+use Rattle.slot.specs.Search.{find, has, orElse, atOr}
 use Rattle.slot.specs.Slot.{freshSlot, freshChannel, numbered, leadsTo}
+use Rattle.table.specs.Table.{slotAt}
 use Rattle.table.specs.Inner.{Within}
 use Rattle.table.proofs.Laws.{found-within}
 use Rattle.rules.specs.declared.answer.Outcome.the-variants.{ToClient}
@@ -37,34 +38,37 @@ use Rattle.rules.specs.Change as rules
 use Rattle.rules.specs.Change.{Out, dropped, toClient, toPeer, Change, keep, write, outOf, errorMessage, respond}
 use Rattle.rules.specs.Inner.{slotAfter}
 use Rattle.rules.specs.Values.{lifetime, anyUnknown, isIpv6, ipv4Of, malformedPeer, ipv6Peer}
-use Rattle.allocation_rules.specs.Allocations.{allocated, allocate, renewed, refreshed, refresh, granted, grantedRefresh}
+use Rattle.allocation_rules.specs.Allocations.{repeats, allocated, allocateReply, secondsLeft, toldAgain, newlyMade, allocate, renewed, refreshed, refresh, granted, grantedRefresh}
 use Rattle.permission_rules.specs.Permissions.{createPermission, channelBind}
 use Rattle.data_rules.specs.Data.{permitted, sentFrom, send, channelledFrom, sendChannelData, relayed, relayFromPeer}
 use Rattle.decisions.specs.declared.client.Asked.{Asked}
 use Rattle.decisions.specs.declared.client.Asked.the-variants as Asked
 use Rattle.decisions.specs.Client.{askedBy}
 use Rattle.rules.proofs.Laws.{kept-not-written}
-use Rattle.allocation_rules.proofs.Laws.{granted-small, granted-refresh-small}
+use Rattle.allocation_rules.proofs.Laws.{repeats-own, granted-small, granted-refresh-small}
 use Rattle.interface.specs.declared.incoming.Call.{Call}
 use Rattle.interface.specs.declared.incoming.Call.the-variants.{Client, Peer}
 use Rattle.interface.specs.declared.incoming.FromClient.{FromClient}
 use Rattle.interface.specs.declared.incoming.FromPeer.{FromPeer}
-use Rattle.state.specs.State.{State, clockOf, atTime}
+use Rattle.state.specs.State.{State, empty, clockOf, atTime}
 use Rattle.state.specs.Outcomes.{Act, refuse, accept, outcomeOf, stateAfter, replyAfter}
 use Rattle.interface.specs.Refusals.{timeOf, lengths, refusal}
-use Rattle.decisions.specs.Decisions.{asRules, roomFor, onAsked, decided}
+use Rattle.decisions.specs.Decisions.{asRules, ownPlace, slotIn, roomFor, onAsked, decided}
 use Rattle.state.specs.Step.{done, accepted, act}
 use Rattle.decisions.specs.Inner.{Ready}
 use Rattle.relay.proofs.Laws.{not-refused}
+use Rattle.decisions.proofs.Accepted.{allocates}
 use Rattle.decisions.proofs.Laws.{decided-writes}
 use Rattle.client_reader.specs.declared.Message.the-variants as Is
 use Rattle.client_reader.specs.declared.ReadMessage.{ReadMessage}
 use Rattle.client_reader.specs.Fields.{Bytes, IdFits, AddressFits, IsBare, IsMessage, InRange, written, dataOf, plain, nothing, Exact}
 use Rattle.client_reader.proofs.Laws.{written-read, message-exact, one-reading, indication-within, indication-data, channel-within, channel-data}
-use Rattle.history.specs.Events.{CallFits, TransportFits, Arrival, acts}
-use Rattle.history.specs.ReadBack.{ownPlace, freePlace, slotIn, unknownFor, errorFor, responseFor, relayedFor, answerFor, fieldsFor, dataFor, ReadAs, ReadBack}
+use Rattle.history.specs.Events.{CallFits, TransportFits, Arrival, Event, Happened, Lived, acts}
+use Rattle.history.specs.Fits.{SlotFits, StateFits}
+use Rattle.history.specs.ReadBack.{freePlace, successFor, unknownFor, errorFor, responseFor, relayedFor, answerFor, fieldsFor, dataFor, ReadAs, ReadBack}
 use Rattle.history.proofs.Tests.{find-some, leads-is}
 use Rattle.history.proofs.FreePort.{port-fits}
+use Rattle.history.proofs.Fits.{found-fits, empty-fits, slots-fit}
 use Rattle.history.proofs.Replies.{id-fits}
 use Rattle.history.proofs.Codes.{Coded, allocate-coded, refresh-coded, permission-coded, channel-coded, types-in-range}
 
@@ -176,16 +180,55 @@ module _ (s : List ℕ) (bytes : Bytes s) where
     abbrev slot : Slot
     slot = slotIn before (ownPlace call before)
 
-    allocate-readable : Left before after (freePlace call before) (allocate (asRules call) s (roomFor call before))
-        → Readable (responseFor call s before after Allocate) [] (outOf (allocate (asRules call) s (roomFor call before)))
-    unfolding allocate allocated
-    allocate-readable left =
-        respond-back _ _ _ _ _ (allocate-coded s (asRules call) (roomFor call before)) (λ e.
-        let small = granted-small (lifetime s) in
-        let made = left .wrote _ _ (answered-by _ _ _ _ e) in
-        let port : slotIn after (freePlace call before) .allocation .port ≡ roomFor call before .port = rw made refl in
-        let seconds : slotIn after (freePlace call before) .allocation .expiry - call .time ≡ granted (lifetime s) = rw made (omega arith) in
-        allocate-back (transactionId s) (id-fits s bytes) _ _ _ _ (fits .0) (port-fits _ _) (omega arith) (fits .1) port seconds)
+    -- the slot that an accepted Allocate is answered from: the caller's own, or else the one that it took
+    abbrev answering : Slot
+    answering = slotIn after (orElse (ownPlace call before) (freePlace call before))
+
+    kept-own : after ≡ before → own ≡ true → answering ≡ slot
+    kept-own same there = go (ownPlace call before) there
+      where
+        go : (place : Found) → has place ≡ true → slotIn after (orElse place (freePlace call before)) ≡ slotIn before place
+        go (At i) e = ap (λ (l : List Slot). slotIn l (At i)) same
+        go Nothing e = absurd (false≢true e)
+
+    took-free : {made : Slot} → slotIn after (freePlace call before) ≡ made → own ≡ false → answering ≡ made
+    took-free {made} is none = go (ownPlace call before) none
+      where
+        go : (place : Found) → has place ≡ false → slotIn after (orElse place (freePlace call before)) ≡ made
+        go (At i) e = absurd (true≢false e)
+        go Nothing e = is
+
+    -- what an accepted Allocate is read back as, from the slot that it is answered from
+    allocated-back : (port seconds : ℕ) → port < 2 ^ 16 → seconds < 2 ^ 32
+        → answering .allocation .port ≡ port → secondsLeft (call .time) (answering .allocation .expiry) ≡ seconds
+        → Readable (plain (successFor call s before after Allocate)) [] (allocateReply (asRules call) s port seconds)
+    allocated-back port seconds p n = allocate-back (transactionId s) (id-fits s bytes) _ port seconds _ (fits .0) p n (fits .1)
+
+    allocate-readable : Left before after (freePlace call before) (allocate (asRules call) s (roomFor call before) slot) → SlotFits slot
+        → Readable (responseFor call s before after Allocate) [] (outOf (allocate (asRules call) s (roomFor call before) slot))
+    unfolding allocate allocated secondsLeft
+    allocate-readable left was =
+        respond-back _ _ _ _ _ (allocate-coded s (asRules call) (repeats (asRules call) s own slot) (roomFor call before))
+        (λ e. go (repeats (asRules call) s own slot) refl (answered-by _ _ _ _ e))
+      where
+        again : Change
+        again = toldAgain (asRules call) s slot
+
+        new : Change
+        new = newlyMade (asRules call) s (roomFor call before .port) (granted (lifetime s))
+
+        picked : {b : Bool} → repeats (asRules call) s own slot ≡ b → pick (repeats (asRules call) s own slot) again new ≡ pick b again new
+        picked is = ap (λ (b : Bool). pick b again new) is
+
+        go : (b : Bool) → repeats (asRules call) s own slot ≡ b → allocate (asRules call) s (roomFor call before) slot ≡ pick (repeats (asRules call) s own slot) again new
+            → Readable (plain (successFor call s before after Allocate)) [] (outOf (pick b again new))
+        go true is q =
+            let same = kept-own (left .kept _ (q ∙ picked is)) (repeats-own (asRules call) s own slot is) in
+            allocated-back (slot .allocation .port) (secondsLeft (call .time) (slot .allocation .expiry)) (was .allocation .port) (omega arith) (rw same refl) (rw same refl)
+        go false is q =
+            let small = granted-small (lifetime s) in
+            let taken = took-free (left .wrote _ _ (q ∙ picked is)) (allocates (asRules call) s _ _ (roomFor call before) slot (q ∙ picked is) .new) in
+            allocated-back (roomFor call before .port) (granted (lifetime s)) (port-fits _ _) (omega arith) (rw taken refl) (rw taken (omega arith))
 
     refresh-readable : Left before after (ownPlace call before) (refresh (asRules call) s own slot)
         → Readable (responseFor call s before after Refresh) [] (outOf (refresh (asRules call) s own slot))
@@ -227,15 +270,15 @@ module _ (s : List ℕ) (bytes : Bytes s) where
             unless _ _ (not own) _ (unless _ _ (not (has (find (numbered (call .time) number) (slot .channels)))) (toPeer _ _ start len) tt)
         go Malformed = tt
 
-    asked-readable : (asked : Asked) → Left before after (onAsked call s before asked .place) (onAsked call s before asked .change)
+    asked-readable : ((i : ℕ) → SlotFits (slotAt before i)) → (asked : Asked) → Left before after (onAsked call s before asked .place) (onAsked call s before asked .change)
         → Readable (answerFor call s before after asked) [] (outOf (onAsked call s before asked .change))
-    asked-readable Asked.Allocate left = allocate-readable left
-    asked-readable Asked.Refresh left = refresh-readable left
-    asked-readable Asked.CreatePermission left = permission-readable
-    asked-readable Asked.ChannelBind left = channel-readable
-    asked-readable Asked.Send left = send-readable
-    asked-readable Asked.ChannelData left = channelled-readable
-    asked-readable Asked.Nothing left = tt
+    asked-readable were Asked.Allocate left = allocate-readable left (found-fits _ before were)
+    asked-readable were Asked.Refresh left = refresh-readable left
+    asked-readable were Asked.CreatePermission left = permission-readable
+    asked-readable were Asked.ChannelBind left = channel-readable
+    asked-readable were Asked.Send left = send-readable
+    asked-readable were Asked.ChannelData left = channelled-readable
+    asked-readable were Asked.Nothing left = tt
 
 -- ---- A peer's datagram
 ipv4-fits : (a : Address) → AddressFits a → ipv4Of a < 2 ^ 32
@@ -269,11 +312,11 @@ module _ (call : FromPeer) (s : List ℕ) (fits : CallFits (Peer call)) (few : l
 -- ---- Every call
 
 decided-readable : (call : Call) (s reply : List ℕ) (before after : List Slot) → CallFits call → Bytes s → Ready call s reply
-    → Left before after (decided call s before .place) (decided call s before .change)
+    → ((i : ℕ) → SlotFits (slotAt before i)) → Left before after (decided call s before .place) (decided call s before .change)
     → Readable (fieldsFor call s before after) (dataFor call s) (outOf (decided call s before .change))
 unfolding decided
-decided-readable (Client call) s reply before after fits bytes ready left = asked-readable s bytes call fits before after (askedBy s) left
-decided-readable (Peer call) s reply before after fits bytes ready left =
+decided-readable (Client call) s reply before after fits bytes ready were left = asked-readable s bytes call fits before after were (askedBy s) left
+decided-readable (Peer call) s reply before after fits bytes ready were left =
     rw (left .kept _ refl) (peer-readable call s fits (ready .short) _ _)
 
 -- the place that was found lies in the table
@@ -312,9 +355,9 @@ done-readable call s st (At k) (write slot out) w h f =
 done-readable call s st Nothing (keep out) w h f = f (st .slots) (left-kept (st .slots) Nothing out)
 done-readable call s st Nothing (write slot out) w h f = absurd (false≢true (h slot out refl))
 
-act-readable : (st : State) (a : Arrival) → ReadableAct (a .call) (a .datagram) (st .slots) (acts st a)
+act-readable : (st : State) (a : Arrival) → StateFits st → ReadableAct (a .call) (a .datagram) (st .slots) (acts st a)
 unfolding act accepted
-act-readable st a = go (eqb number 0) refl
+act-readable st a f = go (eqb number 0) refl
   where
     number : ℕ
     number = refusal (clockOf st) (lengths (length (st .slots)) (length (a .datagram)) (length (a .reply))) (a .call)
@@ -324,7 +367,7 @@ act-readable st a = go (eqb number 0) refl
         done-readable (a .call) (a .datagram) (atTime (timeOf (a .call)) st) _ _ (decided-within (a .call) (a .datagram) (st .slots))
         (decided-writes (a .call) (a .datagram) (st .slots)) (λ after left.
         decided-readable (a .call) (a .datagram) (a .reply) (st .slots) after (a .call-fits) (a .bytes)
-        (not-refused (clockOf st) (st .slots) (a .datagram) (a .reply) (a .call) (eqb-true number 0 e) .ready) left)
+        (not-refused (clockOf st) (st .slots) (a .datagram) (a .reply) (a .call) (eqb-true number 0 e) .ready) (f .slots) left)
     go false e = tt
 
 -- ---- The theorem
@@ -340,12 +383,17 @@ sent-readable fields payload (toPeer port peer start len) reply C n r e = let z 
 
 -- what is sent to a client is read back as the fields that went in
 pub read-back : ReadBack
-read-back before after a reply′ C n d = rw (d .state-is, d .reply-is) (go (acts before a) (act-readable before a) (d .outcome-is))
+read-back before after a reply′ C n f d = rw (d .state-is, d .reply-is) (go (acts before a) (act-readable before a f) (d .outcome-is))
   where
     go : (x : Act) → ReadableAct (a .call) (a .datagram) (before .slots) x → ToClient C n ≡ outcomeOf x
         → ReadAs (fieldsFor (a .call) (a .datagram) (before .slots) (stateAfter before x .slots)) (dataFor (a .call) (a .datagram)) (take n (replyAfter (a .reply) x))
     go (refuse number) r e = let z : _≡_ {A = ℕ} 0 1 = cc in let y : ⊥ = omega arith in absurd y
     go (accept next out) r e = sent-readable _ _ out (a .reply) C n r e
+
+-- so it is of every call after a list of calls to an empty relay
+pub lived-read-back : (list : List Event) (st after : State) (e : Event) (C : FiveTuple) (n : ℕ) → Lived empty list st → Happened st e after → e .outcome ≡ ToClient C n
+    → ReadAs (fieldsFor (e .arrival .call) (e .arrival .datagram) (st .slots) (after .slots)) (dataFor (e .arrival .call) (e .arrival .datagram)) (take n (e .reply))
+lived-read-back list st after e C n lived h is = read-back st after (e .arrival) (e .reply) C n (slots-fit list empty st lived empty-fits) (rw is at h)
 
 module _ {fields : ReadMessage} {payload message : List ℕ} (back : ReadAs fields payload message) where
   -- no other fields make the message

@@ -21,7 +21,7 @@ use Rattle.rules.specs.declared.answer.Outcome.the-variants.{Dropped, ToClient}
 use Rattle.rules.specs.Change.{check, respond}
 use Rattle.rules.specs.Values.{anyUnknown, any, malformedPeer, ipv6Peer}
 use Rattle.rules.specs.Requests.{requestCode, ownCode}
-use Rattle.allocation_rules.specs.Allocations.{allocateCode, allocated, allocate, firstFree, portFor}
+use Rattle.allocation_rules.specs.Allocations.{repeats, allocateCode, allocated, allocate, firstFree, portFor}
 use Rattle.permission_rules.specs.Permissions.{permitPeer, permitAll, createPermissionCode, createPermission}
 use Rattle.data_rules.specs.Data.{permitted, relayed, relayFromPeer}
 use Rattle.decisions.specs.Client.{askedBy}
@@ -112,7 +112,7 @@ pub record Sample : Type 0 where
       ≡ record { user = 3; «five_tuple» = caller; port = 49157; expiry = 1600 }
 
 pub sample : Sample
-unfolding act refusal askedBy sorted wellFormed walk walkF stepAt nextAt num decided allocate respond allocateCode requestCode check anyUnknown unknownTypes unknownNumbers attributesFrom isIntegrity isUnknown attributeKindOf find holds holdsUser holdsPort liveAllocation both sameFiveTuple sameTransportAddress sameAddress freshSlot numberValue firstOf count portFor firstFree portsHeld allocated allocateSuccess bytesOf transactionId accepted createPermission createPermissionCode ownCode permitAll permitPeer permit permissionEntry entry putAt permits freePermission livePermission any malformedPeer ipv6Peer peersFrom peersOf addressAt v4At bareSuccess relayFromPeer permitted relayed leadsTo liveChannel isChannelNumber atOr dataIndication
+unfolding act refusal askedBy sorted wellFormed walk walkF stepAt nextAt num decided allocate respond repeats allocateCode requestCode check anyUnknown unknownTypes unknownNumbers attributesFrom isIntegrity isUnknown attributeKindOf find holds holdsUser holdsPort liveAllocation both sameFiveTuple sameTransportAddress sameAddress freshSlot numberValue firstOf count portFor firstFree portsHeld allocated allocateSuccess bytesOf transactionId accepted createPermission createPermissionCode ownCode permitAll permitPeer permit permissionEntry entry putAt permits freePermission livePermission any malformedPeer ipv6Peer peersFrom peersOf addressAt v4At bareSuccess relayFromPeer permitted relayed leadsTo liveChannel isChannelNumber atOr dataIndication
 sample = record {
   allocate-line = record { to = refl; holds = refl };
   permission-line = record { to = refl; holds = refl };

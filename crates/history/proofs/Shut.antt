@@ -1,5 +1,5 @@
 -- Where a peer's datagram did not reach a client, no later one does, until a request of that client for the peer's address is accepted.
-use Prim.Native.Nat.{ℕ, _+_, _<_, _≤_}
+use Prim.Native.Nat.{ℕ, _<_, _≤_}
 use mathlib.Core.Path.{_≡_, sym, _∙_, ap}
 use mathlib.Core.Logic.{_≢_, _⊎_, inl, inr}
 use mathlib.Core.List.{List, [], _∷_, _++_, List·Memᴰ}
@@ -13,12 +13,12 @@ use Rattle.state.specs.State.{State, clockOf}
 use Rattle.interface.specs.Refusals.{timeOf}
 use Rattle.state.specs.Outcomes.{Act, outcomeOf, replyAfter, stateAfter}
 use Rattle.table.specs.Table.{slotAt}
-use Rattle.history.specs.Counted.{Counted, gave, kept, allowed, nothing}
+use Rattle.history.specs.Counted.{Counted, gave, kept, allowed, nothing, withoutRepeats}
 use Rattle.history.specs.Events.{Arrival, acts, next, Event, Happened, Lived, countsBy, counts, counted}
 use Rattle.history.specs.Statement.{Live, Lasts, FromAddress, Comes, To}
 use Rattle.history.proofs.Readings.{Given, Granted, Allowed, goes→, goes←}
 use Rattle.history.proofs.Table as table
-use Rattle.history.proofs.Table.{AccountsFor}
+use Rattle.history.proofs.Table.{AccountsFor, accounts-later}
 use Rattle.history.proofs.Whole.{Moved, refused, changed, moves, refused-counts, happened-accounts, lived-accounts}
 use Rattle.history.proofs.Demand.{lived-middle, demand-3-from}
 use Rattle.history.proofs.Corollaries.{NoneFor, counted-append}
@@ -43,14 +43,14 @@ allowed-before (nothing ∷ h) C a u t le x = allowed-before h C a u t le x
 
 -- a Refresh is accepted only while the last lifetime lasts
 refresh-lasted : (st : State) (a : Arrival) (past : List Counted) → AccountsFor past st → (x : Act) → Moved st a x → (C : FiveTuple) (s n : ℕ)
-    → countsBy (a .call) (a .datagram) (outcomeOf x) (replyAfter (a .reply) x) ≡ kept C s n → (clockOf st ≤ s) × Granted past C s
+    → withoutRepeats past (countsBy (a .call) (a .datagram) (outcomeOf x) (replyAfter (a .reply) x)) ≡ kept C s n → (clockOf st ≤ s) × Granted past C s
 refresh-lasted st a past I x (refused number e) C s n q =
     let r = refused-counts (a .call) (a .datagram) number (a .reply) in
-    let k : nothing ≡ kept C s n = sym r ∙ rw e at q in
+    let k : nothing ≡ kept C s n = sym (ap (withoutRepeats past) r) ∙ rw e at q in
     let z : _≡_ {A = ℕ} 0 1 = cc in
     let y : ⊥ = omega arith in
     absurd y
-refresh-lasted st a past I x (changed le clock c) C s n q = go (rw q at c)
+refresh-lasted st a past I x (changed le clock c) C s n q = go (rw q at (c past (accounts-later _ _ _ past le I)))
   where
     now : ℕ
     now = timeOf (a .call)

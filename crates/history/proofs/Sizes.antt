@@ -36,7 +36,7 @@ ActFits s (refuse number) = Unit
 ActFits s (accept next out) = (length s ≤ 1500) × Fits s out
 
 asked-fits : (call : FromClient) (s : List ℕ) (slots : List Slot) (asked : Asked) → Fits s (outOf (onAsked call s slots asked .change))
-asked-fits call s slots Asked.Allocate = allocate-fits (asRules call) s (roomFor call slots)
+asked-fits call s slots Asked.Allocate = allocate-fits (asRules call) s (roomFor call slots) _
 asked-fits call s slots Asked.Refresh = refresh-fits (asRules call) s _ _
 asked-fits call s slots Asked.CreatePermission = create-permission-fits (asRules call) s _ _
 asked-fits call s slots Asked.ChannelBind = channel-bind-fits (asRules call) s _ _

@@ -1,9 +1,11 @@
 -- A table seen as a function from slot numbers to slots; what a call may do to it (Change); that what was counted accounts for it (Accounts).
-use mathlib.Core.Path.{_≡_}
+use mathlib.Core.Path.{_≡_, refl}
 use mathlib.Core.Logic.{_≢_, _⊎_}
+use mathlib.Core.Bool.{Bool, true, false}
 use mathlib.Core.List.{List, List·Memᴰ}
 use Prim.Native.Nat.{ℕ, _+_, _<_, _≤_}
 use native.Mathlib.Omega.{arith}
+use native.Mathlib.Nat.{le-refl}
 use Rattle.address.specs.declared.Address.{Address}
 use Rattle.address.specs.declared.FiveTuple.{FiveTuple}
 use Rattle.slot.specs.declared.Permission.{Permission}
@@ -11,9 +13,9 @@ use Rattle.slot.specs.declared.Channel.{Channel}
 use Rattle.slot.specs.declared.Slot.{Slot}
 use Rattle.table.specs.Table.{slotAt}
 use Rattle.state.specs.State.{State, clockOf}
-use Rattle.history.specs.Counted.{Counted, gave, kept, allowed, nothing}
+use Rattle.history.specs.Counted.{Counted, gave, kept, allowed, nothing, granted}
 use Rattle.history.specs.Statement.{permissionAt, channelAt, Live, LiveChannel}
-use Rattle.history.proofs.Readings.{Given, Granted, Allowed, given-port, given-holder}
+use Rattle.history.proofs.Readings.{Given, Granted, Allowed, given-port, given-holder, granted-is}
 
 pub record HasPermission (t : ℕ) (a : Address) (ps : List Permission) : Type 0 where
   pub at : ℕ
@@ -65,6 +67,7 @@ pub record Allot (now : ℕ) (v w : View) (C : FiveTuple) (R n : ℕ) : Type 0 w
   pub port : w k .allocation .port ≡ R
   pub until : w k .allocation .expiry ≡ now + n
   pub some-time : n ≢ 0
+  pub an-hour : n ≤ 3600
   pub bare : (a : Address) (t : ℕ) → HasPermission t a (w k .permissions) → ⊥
   pub neat : Tidy now (w k)
 
@@ -79,6 +82,7 @@ pub record Renew (now : ℕ) (v w : View) (C : FiveTuple) (n : ℕ) : Type 0 whe
   pub chans : w k .channels ≡ v k .channels
   pub until : w k .allocation .expiry ≡ now + n
   pub some-time : n ≢ 0
+  pub an-hour : n ≤ 3600
 
 pub record End (now : ℕ) (v w : View) (C : FiveTuple) (n : ℕ) : Type 0 where
   pub k : ℕ
@@ -110,6 +114,7 @@ Change now v w (allowed C xs ends) = (ends ≡ now + 300) × Admit now v w C xs
 -- ---- What was counted accounts for the table: whatever the table says at the clock or later, the history says
 pub record Accounts (clock : ℕ) (v : View) (h : List Counted) : Type 0 where
   pub own : (i j : ℕ) → Live clock (v i) → Live clock (v j) → v i .allocation .«five_tuple» ≡ v j .allocation .«five_tuple» → i ≡ j
+  pub short : (i : ℕ) → Live clock (v i) → v i .allocation .expiry ≤ clock + 3600
   pub neat : (i : ℕ) → Live clock (v i) → Tidy clock (v i)
   pub given : (i : ℕ) → Live clock (v i) → Given h (v i .allocation .«five_tuple») (v i .allocation .port)
   pub granted→ : (i : ℕ) → Live clock (v i) → (t : ℕ) → clock ≤ t → t < v i .allocation .expiry → Granted h (v i .allocation .«five_tuple») t
@@ -129,6 +134,7 @@ own-port clock v h I i j x y e = I .own i j x y (given-holder h _ _ _ (I .given 
 pub accounts-later : (clock now : ℕ) (v : View) (h : List Counted) → clock ≤ now → Accounts clock v h → Accounts now v h
 accounts-later clock now v h le I = record {
   own = λ i j x y. I .own i j (omega arith) (omega arith);
+  short = λ i x. omega (arith, I .short i (omega arith));
   neat = λ i x. neat-later clock now _ _ le (I .neat i (omega arith));
   given = λ i x. I .given i (omega arith);
   granted→ = λ i x t p. I .granted→ i (omega arith) t (omega arith);
@@ -136,6 +142,18 @@ accounts-later clock now v h le I = record {
   allowed→ = λ i x a t p. I .allowed→ i (omega arith) a t (omega arith);
   allowed← = λ i x a t p. I .allowed← i (omega arith) a t (omega arith);
 }
+
+-- a client has a lifetime that lasts just where it has a live slot
+module _ (now : ℕ) (v : View) (h : List Counted) (I : Accounts now v h) (C : FiveTuple) where
+  pub has-lifetime : (i : ℕ) → Live now (v i) → v i .allocation .«five_tuple» ≡ C → granted h C now ≡ true
+  has-lifetime i x e = granted-is h C now .1 (rw e at (I .granted→ i x now (le-refl now) x))
+
+  pub no-lifetime : ((i : ℕ) → Live now (v i) → v i .allocation .«five_tuple» ≢ C) → granted h C now ≡ false
+  no-lifetime none = go (granted h C now) refl
+    where
+      go : (b : Bool) → granted h C now ≡ b → b ≡ false
+      go true e = let s = I .granted← C now (le-refl now) (granted-is h C now .0 e) in absurd (none (s .0) (s .2) (s .1))
+      go false e = refl
 
 -- whom a peer's datagram reaches, read off the table
 pub record Reach (v : View) (C : FiveTuple) (R : ℕ) (a : Address) (t : ℕ) : Type 0 where

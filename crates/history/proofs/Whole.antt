@@ -38,7 +38,7 @@ use Rattle.interface.specs.Refusals.{timeOf, lengths, refusal}
 use Rattle.decisions.specs.Decisions.{onAsked, decided}
 use Rattle.state.specs.Step.{done, accepted, act}
 use Rattle.relay.proofs.Laws.{not-refused}
-use Rattle.history.specs.Counted.{Counted, nothing}
+use Rattle.history.specs.Counted.{Counted, nothing, withoutRepeats}
 use Rattle.client_reader.specs.Fields.{Bytes}
 use Rattle.history.specs.Events.{CallFits, Arrival, acts, outcome, replied, next, Event, Happened, Lived, countsBy, counts, counted}
 use Rattle.history.specs.Statement.{Live, Apart, GoesTo, FromAddress}
@@ -58,6 +58,7 @@ none-live i x = not-suc-le-zero (rw (all-fresh freshSlot 64 i) at x)
 pub accounts-empty : AccountsFor [] empty
 accounts-empty = record {
   own = λ i j x. absurd (none-live i x);
+  short = λ i x. absurd (none-live i x);
   neat = λ i x. absurd (none-live i x);
   given = λ i x. absurd (none-live i x);
   granted→ = λ i x. absurd (none-live i x);
@@ -82,7 +83,7 @@ clock-accepted st call s = go (decided call s (st .slots) .place) (decided call 
     go Nothing change = refl
 
 -- a peer's datagram changes no slot
-done-keep : (st : State) (found : Found) (out : Out) → done st found (keep out) ≡ accept st out
+pub done-keep : (st : State) (found : Found) (out : Out) → done st found (keep out) ≡ accept st out
 done-keep st (At k) out = refl
 done-keep st Nothing out = refl
 
@@ -97,33 +98,36 @@ peer-stays call st s = done-keep (atTime (call .time) st) (find (inSlot (holdsPo
 
 -- what an accepted call does to the table
 made : (call : Call) (st : State) (s reply : List ℕ) → length (st .slots) ≡ 64 → CallFits call → Bytes s
+    → (past : List Counted) → Accounts (timeOf call) (slotAt (st .slots)) past
     → table.Change (timeOf call) (slotAt (st .slots)) (slotAt (stateAfter st (accepted st call s) .slots))
-    (countsBy call s (outcomeOf (accepted st call s)) (replyAfter reply (accepted st call s)))
+    (withoutRepeats past (countsBy call s (outcomeOf (accepted st call s)) (replyAfter reply (accepted st call s))))
 unfolding accepted decided
-made (Client call) st s reply full fits bytes = go (askedBy s) refl
+made (Client call) st s reply full fits bytes past I = go (askedBy s) refl
   where
     -- an act that is not a refusal says itself what state it leaves
     same : (found : Found) (change : Change)
         → table.Change (call .time) (slotAt (st .slots)) (slotAt (stateAfter (atTime (call .time) st) (done (atTime (call .time) st) found change) .slots))
-        (countsBy (Client call) s (outcomeOf (done (atTime (call .time) st) found change)) (replyAfter reply (done (atTime (call .time) st) found change)))
+        (withoutRepeats past (countsBy (Client call) s (outcomeOf (done (atTime (call .time) st) found change)) (replyAfter reply (done (atTime (call .time) st) found change))))
         → table.Change (call .time) (slotAt (st .slots)) (slotAt (stateAfter st (done (atTime (call .time) st) found change) .slots))
-        (countsBy (Client call) s (outcomeOf (done (atTime (call .time) st) found change)) (replyAfter reply (done (atTime (call .time) st) found change)))
+        (withoutRepeats past (countsBy (Client call) s (outcomeOf (done (atTime (call .time) st) found change)) (replyAfter reply (done (atTime (call .time) st) found change))))
     same (At k) (keep out) c = c
     same (At k) (write slot out) c = c
     same Nothing change c = c
 
     go : (asked : Asked) → askedBy s ≡ asked → table.Change (call .time) (slotAt (st .slots))
         (slotAt (stateAfter st (done (atTime (call .time) st) (onAsked call s (st .slots) asked .place) (onAsked call s (st .slots) asked .change)) .slots))
-        (countsBy (Client call) s (outcomeOf (done (atTime (call .time) st) (onAsked call s (st .slots) asked .place) (onAsked call s (st .slots) asked .change)))
-        (replyAfter reply (done (atTime (call .time) st) (onAsked call s (st .slots) asked .place) (onAsked call s (st .slots) asked .change))))
-    go asked is = same (onAsked call s (st .slots) asked .place) (onAsked call s (st .slots) asked .change) (made-asked call (atTime (call .time) st) s reply full fits bytes asked is)
-made (Peer call) st s reply full fits bytes = rw (peer-stays call st s) (quiet (call .time) (slotAt (st .slots)))
+        (withoutRepeats past (countsBy (Client call) s (outcomeOf (done (atTime (call .time) st) (onAsked call s (st .slots) asked .place) (onAsked call s (st .slots) asked .change)))
+        (replyAfter reply (done (atTime (call .time) st) (onAsked call s (st .slots) asked .place) (onAsked call s (st .slots) asked .change)))))
+    go asked is = same (onAsked call s (st .slots) asked .place) (onAsked call s (st .slots) asked .change) (made-asked call (atTime (call .time) st) s reply full fits bytes past I asked is)
+made (Peer call) st s reply full fits bytes past I = rw (peer-stays call st s) (quiet (call .time) (slotAt (st .slots)))
 
--- what a call does to the table: nothing, where it is refused; else a change at its time, which what it counts as allows
+-- what a call does to the table: nothing, where it is refused; else a change at its time, which what it counts as allows, by what was counted before
 pub data Moved (st : State) (a : Arrival) (x : Act) : Type 0 where
   refused : (number : ℕ) → x ≡ refuse number → Moved st a x
   changed : clockOf st ≤ timeOf (a .call) → clockOf (stateAfter st x) ≡ timeOf (a .call)
-      → table.Change (timeOf (a .call)) (slotAt (st .slots)) (slotAt (stateAfter st x .slots)) (countsBy (a .call) (a .datagram) (outcomeOf x) (replyAfter (a .reply) x))
+      → ((past : List Counted) → Accounts (timeOf (a .call)) (slotAt (st .slots)) past
+      → table.Change (timeOf (a .call)) (slotAt (st .slots)) (slotAt (stateAfter st x .slots))
+      (withoutRepeats past (countsBy (a .call) (a .datagram) (outcomeOf x) (replyAfter (a .reply) x))))
       → Moved st a x
 
 pub moves : (st : State) (a : Arrival) → Moved st a (acts st a)
@@ -142,13 +146,13 @@ moves st a = go (eqb number 0) refl
 
 -- so what was counted accounts for the state after it
 after-call : (st : State) (a : Arrival) (past : List Counted) → AccountsFor past st
-    → AccountsFor (countsBy (a .call) (a .datagram) (outcome st a) (replied st a) ∷ past) (next st a)
+    → AccountsFor (withoutRepeats past (countsBy (a .call) (a .datagram) (outcome st a) (replied st a)) ∷ past) (next st a)
 after-call st a past I = go (acts st a) (moves st a)
   where
-    go : (x : Act) → Moved st a x → AccountsFor (countsBy (a .call) (a .datagram) (outcomeOf x) (replyAfter (a .reply) x) ∷ past) (stateAfter st x)
+    go : (x : Act) → Moved st a x → AccountsFor (withoutRepeats past (countsBy (a .call) (a .datagram) (outcomeOf x) (replyAfter (a .reply) x)) ∷ past) (stateAfter st x)
     go x (refused number e) =
         rw (e, refused-counts (a .call) (a .datagram) number (a .reply)) (keep-accounts _ _ _ _ past nothing (le-refl _) I (quiet _ _))
-    go x (changed le clock c) = rw clock (keep-accounts _ (timeOf (a .call)) _ _ past _ le I c)
+    go x (changed le clock c) = rw clock (keep-accounts _ (timeOf (a .call)) _ _ past _ le I (c past (accounts-later _ _ _ past le I)))
 
 -- ---- Every list of calls
 pub happened-accounts : (before : State) (e : Event) (after : State) (past : List Counted) → Happened before e after → AccountsFor past before

@@ -19,7 +19,7 @@ use Rattle.rules.specs.declared.answer.Outcome.the-variants.{Dropped, ToClient}
 use Rattle.rules.specs.Change.{check, respond}
 use Rattle.rules.specs.Values.{anyUnknown, any, malformedPeer, ipv6Peer}
 use Rattle.rules.specs.Requests.{requestCode, ownCode}
-use Rattle.allocation_rules.specs.Allocations.{allocateCode, allocated, allocate, refreshCode, renewed, refreshed, refresh, firstFree, portFor}
+use Rattle.allocation_rules.specs.Allocations.{repeats, allocateCode, allocated, allocate, refreshCode, renewed, refreshed, refresh, firstFree, portFor}
 use Rattle.permission_rules.specs.Permissions.{permitPeer, permitAll, createPermissionCode, createPermission, bound, channelBindCode, channelBind}
 use Rattle.data_rules.specs.Data.{permitted, relayed, relayFromPeer}
 use Rattle.decisions.specs.Client.{askedBy}
@@ -32,7 +32,7 @@ use Rattle.client_reader.specs.Fields.{Bytes}
 use Rattle.client_reader.specs.Reader.{messageIn}
 use Rattle.client_reader.specs.Inner.{allBelow, allocateFields, refreshFields, bareFields, fieldsOf, sameBytes, checked}
 use Rattle.client_reader.proofs.Types.{all-below}
-use Rattle.history.specs.Counted.{Counted, gave, kept, allowed}
+use Rattle.history.specs.Counted.{Counted, gave, kept, allowed, granted}
 use Rattle.history.specs.Events.{CallFits, Arrival, outcome, run, events, counted}
 use Rattle.history.proofs.Sample.{from, caller, room, allocateBytes, permissionBytes, allocate-bytes, permission-bytes, allocating, coming}
 
@@ -99,7 +99,7 @@ pub record Witnesses : Type 0 where
       (allowed other (V4 0xc000_0296 ∷ []) 1910 ∷ gave other 49157 1600 600 ∷ gave caller 49157 1000 600 ∷ []) (coming 1700 (lit< tt)) other 40
 
 pub witnesses : Witnesses
-unfolding act refusal askedBy sorted wellFormed walk walkF stepAt nextAt num decided allocate respond allocateCode requestCode check anyUnknown unknownTypes unknownNumbers attributesFrom isIntegrity isUnknown attributeKindOf find holds holdsUser holdsPort liveAllocation both sameFiveTuple sameTransportAddress sameAddress freshSlot numberValue firstOf count portFor firstFree portsHeld allocated allocateSuccess bytesOf transactionId accepted refreshCode renewed refreshed refresh refreshSuccess createPermission createPermissionCode ownCode permitAll permitPeer permit permissionEntry entry putAt permits freePermission livePermission any malformedPeer ipv6Peer peersFrom peersOf firstPeer addressAt v4At bareSuccess messageBytes bound channelBindCode channelBind numbered numberTaken peerTaken freeChannel channelEntry bind relayFromPeer permitted relayed leadsTo liveChannel isChannelNumber atOr dataIndication channelData messageIn checked fieldsOf sameBytes allocateFields refreshFields bareFields
+unfolding act refusal askedBy sorted wellFormed walk walkF stepAt nextAt num decided allocate respond repeats allocateCode requestCode check anyUnknown unknownTypes unknownNumbers attributesFrom isIntegrity isUnknown attributeKindOf find holds holdsUser holdsPort liveAllocation both sameFiveTuple sameTransportAddress sameAddress freshSlot numberValue firstOf count portFor firstFree portsHeld allocated allocateSuccess bytesOf transactionId accepted refreshCode renewed refreshed refresh refreshSuccess createPermission createPermissionCode ownCode permitAll permitPeer permit permissionEntry entry putAt permits freePermission livePermission any malformedPeer ipv6Peer peersFrom peersOf firstPeer addressAt v4At bareSuccess messageBytes bound channelBindCode channelBind numbered numberTaken peerTaken freeChannel channelEntry bind relayFromPeer permitted relayed leadsTo liveChannel isChannelNumber atOr dataIndication channelData messageIn checked fieldsOf sameBytes allocateFields refreshFields bareFields granted
 witnesses = record {
   by-refresh = record { counts-as = refl; goes = refl };
   refresh-over = refl;

@@ -27,3 +27,11 @@ granted (gave D port time seconds ∷ past) C t = pick (sameFiveTuple D C) (last
 granted (kept D time seconds ∷ past) C t = pick (sameFiveTuple D C) (lasting t time seconds) (granted past C t)
 granted (allowed D addresses ends ∷ past) C t = granted past C t
 granted (nothing ∷ past) C t = granted past C t
+
+-- request 1: '"accepted Allocate" leaves such repeats out: it counts a success response only where, at the call's time, no lifetime was granted
+-- to the 5-tuple yet, or the last one granted is zero or over'
+abbrev pub withoutRepeats : List Counted → Counted → Counted
+withoutRepeats past (gave C port time seconds) = pick (granted past C time) nothing (gave C port time seconds)
+withoutRepeats past (kept C time seconds) = kept C time seconds
+withoutRepeats past (allowed C addresses ends) = allowed C addresses ends
+withoutRepeats past nothing = nothing

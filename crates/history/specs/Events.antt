@@ -26,7 +26,7 @@ use Rattle.client_reader.specs.declared.Message.{Message}
 use Rattle.client_reader.specs.declared.Message.the-variants.{AllocateSuccess, RefreshSuccess, BareSuccess, Error, UnknownAttributes, DataIndication, ChannelData, Nothing}
 use Rattle.client_reader.specs.Fields.{Bytes, IdFits, AddressFits}
 use Rattle.client_reader.specs.Reader.{messageIn}
-use Rattle.history.specs.Counted.{Counted, gave, kept, allowed, nothing}
+use Rattle.history.specs.Counted.{Counted, gave, kept, allowed, nothing, withoutRepeats}
 
 -- ---- Calls
 
@@ -105,9 +105,9 @@ countsBy (Client call) s (ToClient fiveTuple n) reply = countsAs call s (message
 countsBy (Client call) s (ToPeer port peer start len) reply = nothing
 countsBy (Peer call) s outcome reply = nothing
 
--- what was counted before it is given too, the newest first: a later rule needs it
+-- what an event counts as, by what was counted before it, the newest first
 abbrev pub counts : List Counted → Event → Counted
-counts past e = countsBy (e .arrival .call) (e .arrival .datagram) (e .outcome) (e .reply)
+counts past e = withoutRepeats past (countsBy (e .arrival .call) (e .arrival .datagram) (e .outcome) (e .reply))
 
 -- what was counted after these events, the newest first; `past` is what was counted before them
 abbrev pub counted : List Counted → List Event → List Counted

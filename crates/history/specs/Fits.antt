@@ -8,7 +8,7 @@ use Rattle.slot.specs.declared.Channel.{Channel}
 use Rattle.slot.specs.declared.Slot.{Slot}
 use Rattle.table.specs.Table.{slotAt}
 use Rattle.state.specs.State.{State, clockOf}
-use Rattle.client_reader.specs.Fields.{AddressFits}
+use Rattle.client_reader.specs.Fields.{IdFits, AddressFits}
 use Rattle.history.specs.Events.{TransportFits}
 use Rattle.history.specs.Statement.{permissionAt, channelAt}
 
@@ -32,6 +32,7 @@ pub record ChannelFits (channel : Channel) : Type 0 where
 -- 'with its eight permissions and eight channels beside them'
 pub record SlotFits (slot : Slot) : Type 0 where
   pub allocation : AllocationFits (slot .allocation)
+  pub transaction-id : IdFits (slot .«transaction_id»)
   pub eight-permissions : length (slot .permissions) ≡ 8
   pub permissions : (i : ℕ) → PermissionFits (permissionAt (slot .permissions) i)
   pub eight-channels : length (slot .channels) ≡ 8

@@ -1,6 +1,6 @@
 pub mod Counted
 pub mod Events
-pub mod ReadBack
 pub mod Statement
 pub mod Fits
+pub mod ReadBack
 pub mod Lines

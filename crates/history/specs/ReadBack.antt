@@ -13,22 +13,22 @@ use Rattle.stun.specs.Message.{unknownTypes}
 use Rattle.stun.specs.Values.{transactionId}
 use Rattle.slot.specs.declared.Found.{Found}
 use Rattle.slot.specs.declared.Slot.{Slot}
-use Rattle.slot.specs.Search.{find, has, atOr}
-use Rattle.slot.specs.Slot.{freshSlot, freshChannel, holds, holdsPort, leadsTo}
+use Rattle.slot.specs.Search.{find, has, orElse, atOr}
+use Rattle.slot.specs.Slot.{freshChannel, holdsPort, leadsTo}
 use Rattle.table.specs.Table.{inSlot, lapsed}
 use Rattle.rules.specs.declared.answer.Outcome.the-variants.{ToClient}
 use Rattle.decisions.specs.declared.client.Asked.{Asked}
 use Rattle.decisions.specs.declared.client.Asked.the-variants as Asked
 use Rattle.decisions.specs.Client.{askedBy}
 use Rattle.rules.specs.Values.{ipv4Of}
-use Rattle.allocation_rules.specs.Allocations.{allocateCode, refreshCode}
+use Rattle.allocation_rules.specs.Allocations.{repeats, allocateCode, secondsLeft, refreshCode}
 use Rattle.permission_rules.specs.Permissions.{createPermissionCode, channelBindCode}
 use Rattle.interface.specs.declared.incoming.Call.{Call}
 use Rattle.interface.specs.declared.incoming.Call.the-variants.{Client, Peer}
 use Rattle.interface.specs.declared.incoming.FromClient.{FromClient}
 use Rattle.interface.specs.declared.incoming.FromPeer.{FromPeer}
 use Rattle.state.specs.State.{State}
-use Rattle.decisions.specs.Decisions.{asRules, roomFor}
+use Rattle.decisions.specs.Decisions.{asRules, ownPlace, slotIn, roomFor}
 use Rattle.state.specs.Step.{Stepped}
 use Rattle.client_reader.specs.declared.Message.{Message}
 use Rattle.client_reader.specs.declared.Message.the-variants.{AllocateSuccess, RefreshSuccess, BareSuccess, Error, UnknownAttributes, DataIndication, ChannelData}
@@ -36,38 +36,35 @@ use Rattle.client_reader.specs.declared.ReadMessage.{ReadMessage}
 use Rattle.client_reader.specs.Fields.{dataOf, plain, nothing, IsMessage, Exact}
 use Rattle.client_reader.specs.Reader.{messageIn}
 use Rattle.history.specs.Events.{Arrival}
+use Rattle.history.specs.Fits.{StateFits}
 
 -- ---- The slot that a call is about
 
--- the caller's own live slot; of Allocate 'the lowest such slot', one that isn't live; of a peer's datagram the live slot with the port
-abbrev pub ownPlace : FromClient → List Slot → Found
-ownPlace call slots = find (inSlot (holds (call .time) (call .«five_tuple»))) slots
-
+-- beside the caller's own: of Allocate 'the lowest such slot', one that isn't live; of a peer's datagram the live slot with the port
 abbrev pub freePlace : FromClient → List Slot → Found
 freePlace call slots = find (inSlot (lapsed (call .time))) slots
 
 abbrev pub portPlace : FromPeer → List Slot → Found
 portPlace call slots = find (inSlot (holdsPort (call .time) (call .port))) slots
 
--- the slot at that place, or a fresh one
-abbrev pub slotIn : List Slot → Found → Slot
-slotIn slots place = atOr freshSlot place slots
-
 -- ---- Responses
 
 -- the code of the first check that applies, by the slots before the call; 0 where none does
 abbrev pub codeFor : FromClient → List ℕ → List Slot → Method → ℕ
-codeFor call s before Allocate = allocateCode (asRules call) s (roomFor call before)
+codeFor call s before Allocate =
+    let place = ownPlace call before in
+    allocateCode (asRules call) s (repeats (asRules call) s (has place) (slotIn before place)) (roomFor call before)
 codeFor call s before Refresh = let place = ownPlace call before in refreshCode (asRules call) s (has place) (slotIn before place)
 codeFor call s before CreatePermission = let place = ownPlace call before in createPermissionCode (asRules call) s (has place) (slotIn before place)
 codeFor call s before ChannelBind = let place = ownPlace call before in channelBindCode (asRules call) s (has place) (slotIn before place)
 
 -- 'Reply: XOR-RELAYED-ADDRESS 0x0016, LIFETIME, XOR-MAPPED-ADDRESS 0x0020 (the client).', 'Reply: LIFETIME granted.', 'a bare 20-byte header':
--- the port is that of the slot after the call, and LIFETIME the seconds until its expiry, 0 where the slot is fresh
+-- the port is that of the slot after the call, and LIFETIME the seconds until its expiry, 0 where the slot is fresh. An Allocate's slot is the
+-- caller's own where it had one, which is a repeat's, or else the one that it takes
 abbrev pub successFor : FromClient → List ℕ → (before after : List Slot) → Method → Message
 successFor call s before after Allocate =
-    let allocation = slotIn after (freePlace call before) .allocation in
-    AllocateSuccess (transactionId s) (call .relay) (allocation .port) (allocation .expiry - call .time) (call .«five_tuple» .client)
+    let allocation = slotIn after (orElse (ownPlace call before) (freePlace call before)) .allocation in
+    AllocateSuccess (transactionId s) (call .relay) (allocation .port) (secondsLeft (call .time) (allocation .expiry)) (call .«five_tuple» .client)
 successFor call s before after Refresh = RefreshSuccess (transactionId s) (slotIn after (ownPlace call before) .allocation .expiry - call .time)
 successFor call s before after CreatePermission = BareSuccess CreatePermission (transactionId s)
 successFor call s before after ChannelBind = BareSuccess ChannelBind (transactionId s)
@@ -131,10 +128,10 @@ pub record ReadAs (fields : ReadMessage) (payload message : List ℕ) : Type 0 w
   -- the data that is shown is this, byte for byte
   pub shown : dataOf (fields .message) message ≡ payload
 
--- Wherever an entry did what it promises (`Stepped`), in any state, and the outcome is 'to the client, n bytes': what the first n bytes of the
--- reply are read as
+-- Wherever an entry did what it promises (`Stepped`), in any state whose numbers are of their types (`slots-fit`: all are that a list of calls
+-- leaves), and the outcome is 'to the client, n bytes': what the first n bytes of the reply are read as
 abbrev pub ReadBack : Type 0
 ReadBack =
     (before after : State) (a : Arrival) (reply′ : List ℕ) (C : FiveTuple) (n : ℕ)
-    → Stepped before (a .call) (a .datagram) (ToClient C n) after (a .reply) reply′
+    → StateFits before → Stepped before (a .call) (a .datagram) (ToClient C n) after (a .reply) reply′
     → ReadAs (fieldsFor (a .call) (a .datagram) (before .slots) (after .slots)) (dataFor (a .call) (a .datagram)) (take n reply′)

@@ -24,21 +24,30 @@ pub gives-message : {fiveTuple : FiveTuple} {message before after : List ℕ} {n
     → Gives (toClient fiveTuple message) before after (ToClient fiveTuple n)
 gives-message {fiveTuple} w = record { outcome-is = ap (ToClient fiveTuple) (w .size); reply-is = w .wrote .is }
 
--- .. and the slot kept
+-- something is given out, and the slot kept
+pub gives-kept : {out : Out} {outcome : Outcome} {before after : List ℕ} (was : Slot) → Gives out before after outcome
+    → Answers (keep out) was before after (record { outcome = outcome; writes = false; slot = was })
+gives-kept was g = record { gives = g; writes = refl; slot = refl }
+
+-- .. or written
+pub gives-written : {out : Out} {outcome : Outcome} {before after : List ℕ} {made was slot : Slot} → made ≡ slot → Gives out before after outcome
+    → Answers (write slot out) was before after (record { outcome = outcome; writes = true; slot = made })
+gives-written e g = record { gives = g; writes = refl; slot = e }
+
+-- a message, and the slot kept or written
 pub kept-with : {fiveTuple : FiveTuple} {message before after : List ℕ} {n : ℕ} (was : Slot) → Sent message before after n
     → Answers (keep (toClient fiveTuple message)) was before after (record { outcome = ToClient fiveTuple n; writes = false; slot = was })
-kept-with was w = record { gives = gives-message w; writes = refl; slot = refl }
+kept-with was w = gives-kept was (gives-message w)
 
--- .. and the slot too
 pub written-with : {fiveTuple : FiveTuple} {message before after : List ℕ} {n : ℕ} {made : Slot} {was slot : Slot} → made ≡ slot
     → Sent message before after n
     → Answers (write slot (toClient fiveTuple message)) was before after (record { outcome = ToClient fiveTuple n; writes = true; slot = made })
-written-with e w = record { gives = gives-message w; writes = refl; slot = e }
+written-with e w = gives-written e (gives-message w)
 
 -- what goes out is no message to a client, and the slot is kept
 pub kept : {out : Out} {outcome : Outcome} (was : Slot) (reply : List ℕ) → outcome ≡ outcomeOf out → replyAfter reply out ≡ reply
     → Answers (keep out) was reply reply (record { outcome = outcome; writes = false; slot = was })
-kept was reply e r = record { gives = record { outcome-is = e; reply-is = sym r }; writes = refl; slot = refl }
+kept was reply e r = gives-kept was (record { outcome-is = e; reply-is = sym r })
 
 -- what is kept is not written
 pub kept-not-written : {A : Type 0} {kept out : Out} {slot : Slot} → keep kept ≡ write slot out → A

@@ -9,6 +9,7 @@ use Rattle.address.specs.declared.Address.{Address}
 use Rattle.address.specs.declared.Address.the-variants.{V4}
 use Rattle.address.specs.declared.TransportAddress.{TransportAddress}
 use Rattle.address.specs.declared.FiveTuple.{FiveTuple}
+use Rattle.address.specs.declared.TransactionId.{TransactionId}
 use Rattle.address.specs.Address.{sameAddress, sameTransportAddress, sameFiveTuple}
 use Rattle.slot.specs.declared.Permission.{Permission}
 use Rattle.slot.specs.declared.Channel.{Channel}
@@ -36,6 +37,10 @@ abbrev pub freshAllocation : Allocation
 freshAllocation =
     record { user = 0; «five_tuple» = record { client = freshTransportAddress; server = freshTransportAddress; protocol = 0 }; port = 0; expiry = 0 }
 
+-- request 1: 'Keep the transaction id in the slot.'
+abbrev pub freshTransactionId : TransactionId
+freshTransactionId = record { high = 0; middle = 0; low = 0 }
+
 abbrev pub freshPermission : Permission
 freshPermission = record { address = V4 0; expiry = 0 }
 
@@ -45,17 +50,23 @@ freshChannel = record { number = 0; peer = freshTransportAddress; expiry = 0 }
 -- 'with its eight permissions and eight channels beside them'
 unfoldable pub freshSlot : Slot
 freshSlot =
-    record { allocation = freshAllocation; permissions = replicate 8 freshPermission; channels = replicate 8 freshChannel }
+    record { allocation = freshAllocation; «transaction_id» = freshTransactionId; permissions = replicate 8 freshPermission; channels = replicate 8 freshChannel }
 
--- the slot with another allocation, other permissions or other channels, and the rest of it as it was
+-- the slot with another allocation, another transaction id, other permissions or other channels, and the rest of it as it was
 abbrev pub withAllocation : Slot → Allocation → Slot
-withAllocation slot allocation = record { allocation = allocation; permissions = slot .permissions; channels = slot .channels }
+withAllocation slot allocation =
+    record { allocation = allocation; «transaction_id» = slot .«transaction_id»; permissions = slot .permissions; channels = slot .channels }
+
+abbrev pub withTransactionId : Slot → TransactionId → Slot
+withTransactionId slot id = record { allocation = slot .allocation; «transaction_id» = id; permissions = slot .permissions; channels = slot .channels }
 
 abbrev pub withPermissions : Slot → List Permission → Slot
-withPermissions slot permissions = record { allocation = slot .allocation; permissions = permissions; channels = slot .channels }
+withPermissions slot permissions =
+    record { allocation = slot .allocation; «transaction_id» = slot .«transaction_id»; permissions = permissions; channels = slot .channels }
 
 abbrev pub withChannels : Slot → List Channel → Slot
-withChannels slot channels = record { allocation = slot .allocation; permissions = slot .permissions; channels = channels }
+withChannels slot channels =
+    record { allocation = slot .allocation; «transaction_id» = slot .«transaction_id»; permissions = slot .permissions; channels = channels }
 
 -- 'a channel numbered outside 0x4000 to 0x4FFF is never live'
 unfoldable pub isChannelNumber : ℕ → Bool

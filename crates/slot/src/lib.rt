@@ -1,14 +1,16 @@
 // The records of the relay's state, and the searches in one slot, all by value. A slot is what an allocation has: the allocation
-// itself, its permissions and its channels. Nothing here knows of the table that the slots are in.
+// itself, the transaction id of the Allocate that made it, its permissions and its channels. Nothing here knows of the table that the
+// slots are in.
 use address::Address;
 use address::FiveTuple;
+use address::TransactionId;
 use address::TransportAddress;
 use allocations::fresh_allocation;
 use channels::fresh_channel;
 use permissions::fresh_permission;
 ghost use mathlib.Core.Path.{_≡_};
 ghost use Rattle.slot.specs.Search.{has, orElse};
-ghost use Rattle.slot.specs.Slot.{live, freshTransportAddress, freshSlot, withAllocation, withPermissions, withChannels};
+ghost use Rattle.slot.specs.Slot.{live, freshTransportAddress, freshTransactionId, freshSlot, withAllocation, withTransactionId, withPermissions, withChannels};
 
 pub mod allocations;
 pub mod channels;
@@ -38,6 +40,8 @@ pub struct Allocation {
 
 pub struct Slot {
     pub allocation: Allocation,
+    // The transaction id of the Allocate that made it. No lookup over the slots reads it.
+    pub transaction_id: TransactionId,
     pub permissions: [Permission; 8],
     pub channels: [Channel; 8],
 }
@@ -90,17 +94,30 @@ pub(crate) fn fresh_transport_address() -> TransportAddress
     TransportAddress { address, port: 0 }
 }
 
+// Three words of 0.
+fn fresh_transaction_id() -> TransactionId
+    ensures { λ r. ⌜ r ≡ freshTransactionId ⌝ }
+{
+    TransactionId {
+        high: 0,
+        middle: 0,
+        low: 0,
+    }
+}
+
 // A slot with every number 0 and every address IPv4 0.0.0.0, so that nothing in it is live.
 pub fn fresh_slot() -> Slot
     ensures { λ r. ⌜ r ≡ freshSlot ⌝ }
 {
     let allocation = fresh_allocation();
+    let transaction_id = fresh_transaction_id();
     let permission = fresh_permission();
     let channel = fresh_channel();
     let permissions = [permission; 8];
     let channels = [channel; 8];
     Slot {
         allocation,
+        transaction_id,
         permissions,
         channels,
     }
@@ -112,6 +129,15 @@ pub fn with_allocation(slot: Slot, allocation: Allocation) -> Slot
 {
     let mut made = slot;
     made.allocation = allocation;
+    made
+}
+
+// The slot with this transaction id in place of its own.
+pub fn with_transaction_id(slot: Slot, transaction_id: TransactionId) -> Slot
+    ensures { λ r. ⌜ r ≡ withTransactionId slot «transaction_id» ⌝ }
+{
+    let mut made = slot;
+    made.transaction_id = transaction_id;
     made
 }
 

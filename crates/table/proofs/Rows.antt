@@ -24,7 +24,7 @@ use Rattle.slot.proofs.Allocation.Laws as Allocation-l
 
 -- a slot's size in bytes
 abbrev pub slot-size : ℕ
-slot-size = 648
+slot-size = 664
 
 -- a table's length, and the place of a slot in it in bytes, fit
 pub slots-fit : (n : ℕ) → Room Slot-t.the-row n → n < 2 ^ 63

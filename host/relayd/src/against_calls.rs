@@ -1,7 +1,7 @@
 //! The daemon's own tables held against the proved program: tests that need it (CALLS=PATH cargo test -- --ignored).
 
 use crate::admission::{garbage, garbage_from_peer};
-use crate::ledger::{Ledger, place};
+use crate::ledger::{Change, Ledger, place};
 use crate::line::{self, Answer};
 use crate::pipe::is_accepted;
 use crate::stun::{self, CHANNEL_NUMBER, LIFETIME, REQUESTED_TRANSPORT, XOR_PEER_ADDRESS, ipv4_value};
@@ -52,8 +52,14 @@ fn any_request(seed: &mut u64, clients: u64) -> (SocketAddr, u32, Vec<u8>) {
     let short = (small::<u32>(seed, 2) * 600).to_be_bytes();
     let channel = [0x40, small(seed, 10), 0, 0];
     let (one, two) = ((XOR_PEER_ADDRESS, &first[..]), (XOR_PEER_ADDRESS, &second[..]));
+    // Few ids, so that some Allocates are repeats.
+    let transaction = [small(seed, 2); 12];
     let mut request = match below(seed, 10) {
-        0 | 1 => stun::request(stun::ALLOCATE, &[(REQUESTED_TRANSPORT, &[17, 0, 0, 0]), (LIFETIME, &long)]),
+        0 | 1 => stun::request_of(
+            transaction,
+            stun::ALLOCATE,
+            &[(REQUESTED_TRANSPORT, &[17, 0, 0, 0]), (LIFETIME, &long)],
+        ),
         2 => stun::request(stun::REFRESH, &[(LIFETIME, &long), (LIFETIME, &short)]),
         3 => stun::request(stun::REFRESH, &[(LIFETIME, &short)]),
         4..=6 => stun::request(
@@ -133,6 +139,17 @@ struct Met {
     quota: usize,
     no_room: usize,
     accepted: usize,
+    told_again: usize,
+}
+
+/// The Allocates of the live allocations, sent again.
+fn repeats(ledger: &Ledger, now: u64) -> Vec<u8> {
+    let mut lines = Vec::new();
+    for allocation in ledger.allocations() {
+        let request = stun::request_of(allocation.transaction, stun::ALLOCATE, &[]);
+        line::client(&mut lines, now, allocation.user, 0, allocation.client, &request);
+    }
+    lines
 }
 
 /// A ledger beside a whole history, and the same as it is rebuilt again and again.
@@ -156,8 +173,9 @@ fn history(first: u64, met: &mut Met) {
                 let mut reply = Vec::new();
                 line::read(answer.as_bytes(), &mut reply).expect("an answer");
                 relayed::translate(&mut reply, std::net::Ipv4Addr::LOCALHOST);
-                ledger.record(*time, *user, *client, request, &reply).expect("it changes something");
+                let (_, change) = ledger.record(*time, *user, *client, request, &reply).expect("it is taken in");
                 met.accepted += 1;
+                met.told_again += usize::from(matches!(change, Change::ToldAgain(_)));
             }
             met.quota += usize::from(answer.ends_with("0009000400000456"));
             met.no_room += usize::from(answer.ends_with("0009000400000508"));
@@ -167,9 +185,13 @@ fn history(first: u64, met: &mut Met) {
         let (_, listing) = ask(&whole);
         assert_eq!(rows_of(&ledger), by_owner(&listing), "from {first}, at {now}");
         let (table, count) = rebuild::lines(&ledger, now);
-        let (again, rebuilt) = ask(&[table, tick(now)].concat());
+        let repeats = repeats(&ledger, now);
+        let (again, rebuilt) = ask(&[&table[..], &tick(now), &repeats].concat());
+        let (kept, _) = ask(&[&whole[..], &repeats].concat());
         let accepted = again.iter().filter(|answer| is_accepted(answer.as_bytes())).count();
-        assert_eq!(accepted, count, "from {first}, at {now}");
+        let live = ledger.allocations().count();
+        assert_eq!(accepted, count + live, "from {first}, at {now}");
+        assert_eq!(again[again.len() - live..], kept[kept.len() - live..], "from {first}, at {now}");
         assert_eq!(by_owner(&rebuilt), by_owner(&listing), "from {first}, at {now}");
     }
 }
@@ -182,11 +204,12 @@ fn the_ledger_has_what_calls_lists_and_makes_it_again() {
         history(first, &mut met);
     }
     assert!(
-        met.quota > 100 && met.no_room > 100 && met.accepted > 10_000,
-        "{} {} {}",
+        met.quota > 100 && met.no_room > 100 && met.accepted > 10_000 && met.told_again > 100,
+        "{} {} {} {}",
         met.quota,
         met.no_room,
-        met.accepted
+        met.accepted,
+        met.told_again
     );
 }
 

@@ -124,6 +124,7 @@ impl Desk {
         let who = format!("{whose}, client {client}, relay port {relay_port}");
         match &change {
             Change::Made(seconds) => self.event(&format!("allocation made: {who}, for {}", minutes(*seconds))),
+            Change::ToldAgain(seconds) => self.event(&format!("allocation told again: {who}, {} left", minutes(*seconds))),
             Change::Refreshed(seconds) => self.event(&format!("allocation refreshed: {who}, for {}", minutes(*seconds))),
             Change::GivenBack(gone) => self.event(&ended("given back", &who, gone)),
             Change::Permitted(hosts) => {

@@ -4,7 +4,7 @@
 //! of demand 3), so relayd keeps the same table beside it: to show it, to let the kernel drop what has no permission, and to make a new
 //! program's table if the old one ends. A test holds it against the program's own listing.
 
-use crate::stun;
+use crate::stun::{self, TransactionId};
 use std::collections::BTreeMap;
 use std::net::{Ipv4Addr, SocketAddr, SocketAddrV4};
 
@@ -38,6 +38,8 @@ impl Flow {
 pub struct Allocation {
     pub user: u32,
     pub client: SocketAddr,
+    /// Of the Allocate that made it.
+    pub transaction: TransactionId,
     pub relay_port: u16,
     pub expiry: u64,
     /// When each ends.
@@ -53,6 +55,8 @@ pub struct Allocation {
 pub enum Change {
     /// An allocation, for so many seconds.
     Made(u64),
+    /// None: the client asked again, and was told how many seconds it has left.
+    ToldAgain(u64),
     /// It now ends so many seconds from now.
     Refreshed(u64),
     /// It is over.
@@ -105,7 +109,7 @@ impl Ledger {
     /// Takes in an accepted request and its success response: the relay port, and what has changed.
     pub fn record(&mut self, now: u64, user: u32, client: SocketAddr, request: &[u8], reply: &[u8]) -> Option<(u16, Change)> {
         if stun::kind(request) == stun::ALLOCATE {
-            return self.allocated(now, user, client, reply);
+            return self.allocated(now, user, client, request, reply);
         }
         let relay_port = self.of(client)?.relay_port;
         let allocation = self.at_mut(relay_port)?;
@@ -124,11 +128,16 @@ impl Ledger {
         Some((relay_port, change))
     }
 
-    fn allocated(&mut self, now: u64, user: u32, client: SocketAddr, reply: &[u8]) -> Option<(u16, Change)> {
+    /// A success response to a client that has an allocation is the answer to a repeat, and changes nothing.
+    fn allocated(&mut self, now: u64, user: u32, client: SocketAddr, request: &[u8], reply: &[u8]) -> Option<(u16, Change)> {
         let (relay_port, seconds) = (stun::relayed_address(reply)?.port(), stun::lifetime(reply)?);
+        if self.of(client).is_some() {
+            return Some((relay_port, Change::ToldAgain(seconds)));
+        }
         *self.0.get_mut(place(relay_port))? = Some(Allocation {
             user,
             client,
+            transaction: stun::transaction_id(request),
             relay_port,
             expiry: now + seconds,
             permissions: BTreeMap::new(),
@@ -239,6 +248,20 @@ pub mod tests {
         let over = ledger.record(50, 3, client(1), &refresh, &request(0x0104, &[(LIFETIME, &[0; 4])]));
         assert!(matches!(over, Some((49157, Change::GivenBack(_)))));
         assert_eq!(ledger.allocations().count(), 0);
+    }
+
+    #[test]
+    fn a_repeat_changes_nothing() {
+        let mut ledger = Ledger::new();
+        allocate(&mut ledger, 10, client(1), 49157, 600);
+        bind(&mut ledger, 20, client(1), 0x4000, "192.0.2.150:5000");
+        ledger.at_mut(49157).expect("it is there").to_peers.add(4);
+        let before = ledger.of(client(1)).cloned();
+        let relayed = ipv4_value(SocketAddrV4::new(Ipv4Addr::LOCALHOST, 49157));
+        let reply = request(0x0103, &[(XOR_RELAYED_ADDRESS, &relayed), (LIFETIME, &580u32.to_be_bytes())]);
+        let again = ledger.record(30, 3, client(1), &request(stun::ALLOCATE, &[]), &reply);
+        assert_eq!(again, Some((49157, Change::ToldAgain(580))));
+        assert_eq!(ledger.of(client(1)).cloned(), before);
     }
 
     #[test]

@@ -1,7 +1,8 @@
 //! The requests that make the ledger's table in a fresh relay.
 //!
 //! Each permission and channel is made when it was last made, each allocation before all of them, and then refreshed so that it ends when
-//! it ends. All of it was live together at those times, so none is refused for want of room. Every expiry, port and user is kept.
+//! it ends. All of it was live together at those times, so none is refused for want of room. Every expiry, port, user and transaction id is
+//! kept, so that an Allocate that is sent again gets its answer from the new table too.
 
 use crate::ledger::{Allocation, CHANNEL, FIRST_PORT, Ledger, PERMISSION};
 use crate::line;
@@ -26,7 +27,7 @@ fn requests(allocation: &Allocation, now: u64) -> Vec<(u64, Vec<u8>)> {
     let mut add = |time: u64, method, attributes: &[(u16, &[u8])]| {
         let start = u32::from(allocation.relay_port.wrapping_sub(FIRST_PORT));
         let mut line = Vec::new();
-        let request = stun::request(method, attributes);
+        let request = stun::request_of(allocation.transaction, method, attributes);
         line::client(&mut line, time, allocation.user, start, allocation.client, &request);
         made.push((time, line));
     };

@@ -28,6 +28,11 @@ pub const COOKIE: u32 = 0x2112_a442;
 /// How long a message's header is.
 pub const HEADER: usize = 20;
 
+/// The 96 bits that tie a response to its request.
+pub type TransactionId = [u8; 12];
+/// Nobody's.
+pub const NO_TRANSACTION: TransactionId = [0; 12];
+
 fn word(bytes: &[u8]) -> u16 {
     match bytes {
         [high, low, ..] => u16::from_be_bytes([*high, *low]),
@@ -135,19 +140,33 @@ pub fn error_code(message: &[u8]) -> Option<u16> {
     }
 }
 
-/// A request without a transaction of anybody's, from a method and attributes.
+/// A message's transaction id; zeros where it has none.
+pub fn transaction_id(message: &[u8]) -> TransactionId {
+    message.get(8..HEADER).and_then(|id| id.try_into().ok()).unwrap_or(NO_TRANSACTION)
+}
+
+/// A request without a transaction of anybody's.
+#[cfg(test)]
 pub fn request(method: u16, attributes: &[(u16, &[u8])]) -> Vec<u8> {
-    message(method, &[0; 12], attributes)
+    request_of(NO_TRANSACTION, method, attributes)
+}
+
+/// A request of this transaction, from a method and attributes.
+pub fn request_of(transaction: TransactionId, method: u16, attributes: &[(u16, &[u8])]) -> Vec<u8> {
+    message(method, &transaction, attributes)
 }
 
 /// The error response to a request, as the relay would write it.
 pub fn error_response(request: &[u8], code: u16) -> Vec<u8> {
-    let transaction = request.get(8..HEADER).unwrap_or(&[0; 12]);
     let [hundreds, rest] = [code / 100, code % 100].map(|part| u8::try_from(part).unwrap_or(0));
-    message(kind(request) | ERROR, transaction, &[(ERROR_CODE, &[0, 0, hundreds, rest])])
+    message(
+        kind(request) | ERROR,
+        &transaction_id(request),
+        &[(ERROR_CODE, &[0, 0, hundreds, rest])],
+    )
 }
 
-fn message(kind: u16, transaction: &[u8], attributes: &[(u16, &[u8])]) -> Vec<u8> {
+fn message(kind: u16, transaction: &TransactionId, attributes: &[(u16, &[u8])]) -> Vec<u8> {
     let mut message = [&kind.to_be_bytes()[..], &[0, 0], &COOKIE.to_be_bytes(), transaction].concat();
     for (kind, value) in attributes {
         append(&mut message, *kind, value);

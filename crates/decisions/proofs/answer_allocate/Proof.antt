@@ -1,5 +1,6 @@
 use mathlib.Core.Path.{refl}
-use Rattle.decisions.proofs.Laws.{surveyed}
+use Rattle.allocation_rules.specs.Allocations.{allocate}
+use Rattle.decisions.proofs.Laws.{surveyed, own-slot-answers}
 use borrow.Author.Needs.{needs}
 use Rattle.decisions.proofs.answer_allocate.Statement.{statement}
 use Rattle.decisions.proofs.answer_allocate.Tie as tie
@@ -16,7 +17,8 @@ returns c = λ slots l e.
       ← surveyed (c .before .before .before .before .before .before .before .before .before .before .before .args .call) (l .room refl) (c .before .before .before .before .before .before .before .has .ensures) (c .before .before .before .before .before .before .has2 .ensures) (c .before .before .before .before .before .port-for .ensures),
       ← c .before .before .before .client-call .ensures,
     )
-    (c .before .before .allocate .ensures)
+    (own-slot-answers (c .before .before .before .before .before .before .before .before .before .before .before .args .call) (allocate (c .before .before .before .client-call .result) (c .before .before .before .before .before .before .before .before .before .before .before .args .datagram .now) _)
+    (c .before .before .allocate .ensures) slots l e)
 
 pub answer-allocate-spec : {M : Type 1} → statement M
 answer-allocate-spec =
