@@ -3,7 +3,6 @@ use Prim.Native.Nat.{ℕ, _≤_}
 use mathlib.Core.Path.{_≡_, refl}
 use mathlib.Core.Bool.{Bool, true, false, not}
 use mathlib.Core.List.{List}
-use mathlib.Core.Logic.{_⊎_, inl, inr}
 use native.Mathlib.Omega.{arith}
 use lib.Dec.{eqb, leb}
 use borrow.Author.Tests.{eqb-true, not-false}
@@ -162,18 +161,8 @@ module _ (call : ClientCall) (s : List ℕ) (slot : Slot) (out : Out) where
           out-is = cc;
         }
 
--- ---- The lifetime granted lies in 600 to 3600; a Refresh may also be granted 0
+-- ---- The lifetime that an Allocate is granted lies in 600 to 3600
 pub granted-range : (asked : NumberValue) → (600 ≤ granted asked) × (granted asked ≤ 3600)
 granted-range (Number n) = (omega arith, omega arith)
 granted-range WrongLength = (omega arith, omega arith)
 granted-range Absent = (omega arith, omega arith)
-
-pub granted-refresh-range : (asked : NumberValue) → (grantedRefresh asked ≡ 0) ⊎ ((600 ≤ grantedRefresh asked) × (grantedRefresh asked ≤ 3600))
-granted-refresh-range (Number n) = go (eqb n 0) (granted-range (Number n))
-  where
-    go : (b : Bool) → (600 ≤ granted (Number n)) × (granted (Number n) ≤ 3600)
-        → (pick b 0 (granted (Number n)) ≡ 0) ⊎ ((600 ≤ pick b 0 (granted (Number n))) × (pick b 0 (granted (Number n)) ≤ 3600))
-    go true h = inl refl
-    go false h = inr h
-granted-refresh-range WrongLength = inr (omega arith, omega arith)
-granted-refresh-range Absent = inr (omega arith, omega arith)

@@ -81,3 +81,7 @@ asks-for method s e = go method (rw e at (type-asked s))
     go CreatePermission (inr q) = eq-eqb _ _ q
     go ChannelBind (inl z) = let y : ⊥ = omega arith in absurd y
     go ChannelBind (inr q) = eq-eqb _ _ q
+
+-- a request has one type
+pub asks-no-other : (one other : Method) (s : List ℕ) → eqb (requestType one) (requestType other) ≡ false → asks one s ≡ true → asks other s ≡ false
+asks-no-other one other s differ e = let type : num s 0 2 ≡ requestType one = eqb-true _ _ e in rw (type, differ)

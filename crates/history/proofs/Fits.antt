@@ -1,7 +1,6 @@
 -- Every call leaves a state whose numbers are of their types.
 use Prim.Native.Nat.{ℕ, zero, suc, _+_, _<_, _≤_, _^_}
 use mathlib.Core.Path.{_≡_, refl, _∙_}
-use mathlib.Core.Logic.{_⊎_, inl, inr}
 use mathlib.Core.Bool.{Bool, true, false}
 use mathlib.Core.List.{List, [], _∷_}
 use native.Mathlib.Omega.{arith}
@@ -32,7 +31,8 @@ use Rattle.allocation_rules.specs.Allocations.{allocated, renewed, refreshed}
 use Rattle.permission_rules.specs.Permissions.{permitPeer, permitAll, bound}
 use Rattle.decisions.specs.Client.{askedBy}
 use Rattle.rules.proofs.Laws.{kept-not-written}
-use Rattle.decisions.proofs.Accepted.{allocates, refreshes, permits, binds, granted-range, granted-refresh-range}
+use Rattle.decisions.proofs.Accepted.{allocates, refreshes, permits, binds, granted-range}
+use Rattle.allocation_rules.proofs.Laws.{granted-refresh-small}
 use Rattle.interface.specs.declared.incoming.Call.{Call}
 use Rattle.interface.specs.declared.incoming.Call.the-variants.{Client, Peer}
 use Rattle.interface.specs.declared.incoming.FromClient.{FromClient}
@@ -187,10 +187,6 @@ module _ (call : FromClient) (s : List ℕ) (l : List Slot) (fits : CallFits (Cl
     channels = fresh-fits .channels;
   }
 
-  at-most : (seconds : ℕ) → (seconds ≡ 0) ⊎ ((600 ≤ seconds) × (seconds ≤ 3600)) → seconds ≤ 3600
-  at-most seconds (inl z) = omega arith
-  at-most seconds (inr z) = z .1
-
   number-fits : (number : ℕ) → isChannelNumber number ≡ true → number < 2 ^ 16
   unfolding isChannelNumber
   number-fits number e = let h = leb-true number 0x4fff (both-parts _ _ e .1) in omega arith
@@ -201,7 +197,7 @@ module _ (call : FromClient) (s : List ℕ) (l : List Slot) (fits : CallFits (Cl
       rw (allocates (asRules call) s slot out (roomFor call l) _ e .slot-is) (allocated-fits _ _ (port-fits _ _) (granted-range (lifetime s) .1))
   asked-fits Asked.Refresh slot out e =
       rw (refreshes (asRules call) s slot out _ _ e .slot-is)
-      (refreshed-fits (call .time) soon _ (at-most _ (granted-refresh-range (lifetime s))) _ (found-fits _ l were))
+      (refreshed-fits (call .time) soon _ (granted-refresh-small (lifetime s)) _ (found-fits _ l were))
   asked-fits Asked.CreatePermission slot out e =
       rw (permits (asRules call) s slot out _ _ e .slot-is)
       (all-fit (call .time) soon s bytes (peers s) _ _ (peers-fit s bytes) (found-fits _ l were) (found-fits _ l were))

@@ -1,5 +1,5 @@
 -- Every call's act is a change of the table that what it counts as allows.
-use Prim.Native.Nat.{ℕ, _+_, _<_, _≤_}
+use Prim.Native.Nat.{ℕ, _+_, _<_}
 use mathlib.Core.Path.{_≡_, refl, sym, _∙_}
 use mathlib.Core.Logic.{_⊎_, inl, inr}
 use mathlib.Core.Bool.{Bool, true, false, not, false≢true}
@@ -38,8 +38,8 @@ use Rattle.decisions.specs.declared.client.Asked.{Asked}
 use Rattle.decisions.specs.declared.client.Asked.the-variants as Asked
 use Rattle.decisions.specs.Client.{askedBy}
 use Rattle.rules.proofs.Laws.{kept-not-written}
-use Rattle.allocation_rules.proofs.Laws.{repeats-own}
-use Rattle.decisions.proofs.Accepted.{allocates, refreshes, permits, binds, granted-range, granted-refresh-range}
+use Rattle.allocation_rules.proofs.Laws.{repeats-own, granted-refresh-small}
+use Rattle.decisions.proofs.Accepted.{allocates, refreshes, permits, binds, granted-range}
 use Rattle.interface.specs.declared.incoming.Call.the-variants.{Client}
 use Rattle.interface.specs.declared.incoming.FromClient.{FromClient}
 use Rattle.state.specs.State.{State, withSlots}
@@ -52,7 +52,7 @@ use Rattle.history.specs.Events.{CallFits, countsBy}
 use Rattle.history.specs.Statement.{Live}
 use Rattle.history.proofs.Table as table
 use Rattle.history.proofs.Table.{View, Frame, Quiet, Accounts, has-lifetime, no-lifetime}
-use Rattle.history.proofs.Tests.{find-some, has-not, has-at, own-is, lapsed-is, none-own, none-port}
+use Rattle.history.proofs.Tests.{find-some, has-not, own-is, found-own, lapsed-is, none-own, none-port}
 use Rattle.history.proofs.Entries.{Admits, all-admitted, bound-admitted, fresh-bare, fresh-neat}
 use Rattle.history.proofs.Asking.{asks-for}
 use Rattle.history.proofs.FreePort.{port-free, port-fits}
@@ -156,9 +156,8 @@ module _ (call : FromClient) (st : State) (s reply : List ℕ) (full : length (s
   -- a repeat's client has a live slot, and so a lifetime that lasts
   repeated-made : askedBy s ≡ Asked.Allocate → repeats (asRules call) s (has (ownPlace call l)) own ≡ true → (out : Out) → Made (accept st out)
   repeated-made asked again out =
-      let f = has-at _ (repeats-own _ s _ own again) in
-      let o = own-is (call .time) (call .«five_tuple») (slotAt l (f .0)) (find-some (inSlot (holds (call .time) (call .«five_tuple»))) l freshSlot (f .0) (f .1) .0) in
-      rw (left-out call s past (asks-for Allocate s asked) (has-lifetime _ _ past I (call .«five_tuple») (f .0) (o .0) (o .1)) out reply)
+      let f = found-own (call .time) (call .«five_tuple») l (repeats-own _ s _ own again) in
+      rw (left-out call s past (asks-for Allocate s asked) (has-lifetime _ _ past I (call .«five_tuple») (f .0) (f .2) (f .3)) out reply)
       (quiet (call .time) (slotAt l))
 
   allocate-stays : askedBy s ≡ Asked.Allocate → (out : Out) → allocate (asRules call) s (roomFor call l) own ≡ keep out → Made (accept st out)
@@ -184,15 +183,11 @@ module _ (call : FromClient) (st : State) (s reply : List ℕ) (full : length (s
     unfolding refreshed renewed freshSlot
     refreshed-made asked e =
         let r = refreshes (asRules call) s slot out own (slotAt l k) e in
-        rw (r .out-is, refresh-counts call s reply bytes seconds (omega (arith, short (granted-refresh-range (lifetime s)))) (asks-for Refresh s asked))
+        rw (r .out-is, refresh-counts call s reply bytes seconds (omega (arith, granted-refresh-small (lifetime s))) (asks-for Refresh s asked))
         (refl, go (eqb seconds 0) refl (put-same k slot room ∙ r .slot-is))
       where
         seconds : ℕ
         seconds = grantedRefresh (lifetime s)
-
-        short : (seconds ≡ 0) ⊎ ((600 ≤ seconds) × (seconds ≤ 3600)) → seconds ≤ 3600
-        short (inl z) = omega arith
-        short (inr z) = z .1
 
         go : (b : Bool) → eqb seconds 0 ≡ b → slotAt (set l k slot) k ≡ pick b freshSlot (renewed (call .time + seconds) (slotAt l k))
             → table.Renew (call .time) (slotAt l) (slotAt (set l k slot)) (call .«five_tuple») seconds
@@ -212,7 +207,7 @@ module _ (call : FromClient) (st : State) (s reply : List ℕ) (full : length (s
               chans = rw is;
               until = rw is;
               some-time = eqb-false _ _ z;
-              an-hour = short (granted-refresh-range (lifetime s));
+              an-hour = granted-refresh-small (lifetime s);
             })
 
     -- a request for these addresses made this slot

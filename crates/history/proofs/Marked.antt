@@ -1,5 +1,5 @@
--- Document 01's marked cases, 'Both sides of each edge', and a repeated Allocate: each is the last of a list of calls to a fresh relay, and one table has what each
--- does: the clock and all slots afterwards, and the bytes that go to the client. Computed through the whole step.
+-- Document 01's marked cases, 'Both sides of each edge', and a repeated Allocate: each is the last of a list of calls to a fresh relay, and one
+-- table has what each does: the clock and all slots afterwards, and the bytes that go to the client. Computed through the whole step.
 use Prim.Native.Nat.{ℕ, _+_}
 use mathlib.Core.Path.{_≡_, refl}
 use mathlib.Core.List.{List, [], _∷_, _++_}

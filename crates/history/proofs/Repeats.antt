@@ -9,7 +9,7 @@ use native.Mathlib.Omega.{arith}
 use native.Mathlib.Nat.{le-refl}
 use lib.Dec.{eqb}
 use lib.ListN.{length, take}
-use borrow.Author.Tests.{eqb-true, eq-eqb, le-ltb}
+use borrow.Author.Tests.{eqb-true, le-ltb}
 use Rattle.choice.specs.Choice.{pick}
 use Rattle.address.specs.declared.FiveTuple.{FiveTuple}
 use Rattle.stun.specs.declared.kinds.Method.{Method}
@@ -19,7 +19,6 @@ use Rattle.slot.specs.declared.Slot.{Slot}
 use Rattle.slot.specs.declared.Found.{Found}
 use Rattle.slot.specs.declared.Found.the-variants.{Nothing}
 use Rattle.slot.specs.Search.{has, atOr}
-use Rattle.slot.specs.Slot.{freshSlot}
 use Rattle.table.specs.Table.{slotAt}
 use Rattle.rules.specs.declared.answer.Outcome.{Outcome}
 use Rattle.rules.specs.declared.answer.Outcome.the-variants.{Refused, Dropped, ToClient, ToPeer}
@@ -53,8 +52,8 @@ use Rattle.history.specs.Fits.{StateFits}
 use Rattle.history.specs.Statement.{Live}
 use Rattle.history.proofs.Readings.{Given, granted-is}
 use Rattle.history.proofs.Table.{Accounts, AccountsFor, accounts-later, no-lifetime}
-use Rattle.history.proofs.Tests.{find-some, has-at, has-not, own-is, none-own, clash}
-use Rattle.history.proofs.Asking.{asks-for}
+use Rattle.history.proofs.Tests.{has-not, found-own, none-own, clash}
+use Rattle.history.proofs.Asking.{asks-for, asks-no-other}
 use Rattle.history.proofs.Replies.{Unaccepted, dropped-unaccepted, error-unaccepted, allocate-counts}
 use Rattle.history.proofs.Made.{send-unaccepted, channelled-unaccepted}
 use Rattle.history.proofs.Whole.{accounts-empty, lived-accounts, refused-counts, done-keep}
@@ -113,10 +112,6 @@ module _ (call : FromClient) (s : List ℕ) {C : FiveTuple} {port t seconds : �
   outcome-of (ToClient fiveTuple n) reply e = message-of (messageIn (take n reply) .message) e
   outcome-of (ToPeer p peer start len) reply e = never refl e
 
--- a request has one type
-one-type : (method : Method) (s : List ℕ) → asks Allocate s ≡ true → asks method s ≡ true → requestType Allocate ≡ requestType method
-one-type method s a b = sym (eqb-true _ _ a) ∙ eqb-true _ _ b
-
 -- ---- The slot that answers a repeat
 record Answered (st after : State) (C : FiveTuple) (port t seconds : ℕ) : Type 0 where
   not-before : clockOf st ≤ t
@@ -151,16 +146,15 @@ module _ (st : State) (past : List Counted) (I : AccountsFor past st) (typed : S
     other : (method : Method) → eqb (requestType Allocate) (requestType method) ≡ false → askedBy s ≡ requestAsks method → (x : Act) → Answers call s reply x
     other method differ asked x q =
         let of = outcome-of call s (outcomeOf x) (replyAfter reply x) q in
-        clash _ (eq-eqb _ _ (one-type method s (of .asked) (asks-for method s asked))) differ
+        clash _ (asks-for method s asked) (asks-no-other Allocate method s differ (of .asked))
 
     -- a repeat is answered from the caller's own slot
     again : (place : Found) → askedBy s ≡ Asked.Allocate → repeats (asRules call) s (has (ownPlace call l)) own ≡ true
         → Answers call s reply (done now place (toldAgain (asRules call) s own))
     unfolding secondsLeft atOr
     again place asked same = rw (done-keep now place (outOf (toldAgain (asRules call) s own))) (λ q.
-        let f = has-at _ (repeats-own _ s _ own same) in
+        let f = found-own (call .time) (call .«five_tuple») l (repeats-own _ s _ own same) in
         let k : ℕ = f .0 in
-        let o = own-is (call .time) (call .«five_tuple») (slotAt l k) (find-some _ l freshSlot k (f .1) .0) in
         let at : own ≡ slotAt l k = ap (slotIn l) (f .1) in
         let fit = found-fits (ownPlace call l) l (typed .slots) .allocation .port in
         let said = sym (allocate-counts call s reply bytes (own .allocation .port) (secondsLeft (call .time) (own .allocation .expiry)) (fits .0) fit (omega arith) (fits .1) (asks-for Allocate s asked)) ∙ q in
@@ -171,8 +165,8 @@ module _ (st : State) (past : List Counted) (I : AccountsFor past st) (typed : S
         record {
           not-before = rw (← when) not-before;
           k = k;
-          live = rw (← when) (o .0);
-          who = o .1 ∙ who;
+          live = rw (← when) (f .2);
+          who = f .3 ∙ who;
           port-is = rw (← at) port-is;
           left = rw (← at, ← when) left;
           same = rw (← when) refl;

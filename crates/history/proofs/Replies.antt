@@ -6,7 +6,6 @@ use mathlib.Core.List.{List, _∷_, [], _++_}
 use lib.Dec.{eqb, leb}
 use lib.ListN.{length, take, drop}
 use lib.Seq.{take-at}
-use borrow.Author.Tests.{eqb-true}
 use Rattle.wire.specs.Wire.{num, bytesOf}
 use Rattle.choice.specs.Choice.{pick, both}
 use Rattle.address.specs.declared.FiveTuple.{FiveTuple}
@@ -14,7 +13,7 @@ use Rattle.address.specs.declared.TransportAddress.{TransportAddress}
 use Rattle.address.specs.declared.TransactionId.{TransactionId}
 use Rattle.stun.specs.declared.kinds.Method.{Method}
 use Rattle.stun.specs.declared.kinds.Method.the-variants.{Allocate, Refresh, CreatePermission, ChannelBind}
-use Rattle.stun.specs.Kinds.{requestType, errorType}
+use Rattle.stun.specs.Kinds.{errorType}
 use Rattle.stun.specs.Message.{unknownTypes}
 use Rattle.stun.specs.Values.{transactionId, peers, firstPeer}
 use Rattle.messages.specs.Messages.{messageBytes, errorCodeAttribute, unknownAttribute, errorResponse, unknownResponse, allocateSuccess, refreshSuccess, bareSuccess}
@@ -31,6 +30,7 @@ use Rattle.client_reader.proofs.Laws.{read-allocate, read-refresh, read-bare}
 use Rattle.client_reader.proofs.Around.{num-lt}
 use Rattle.history.specs.Counted.{Counted, gave, kept, allowed, nothing, granted, withoutRepeats}
 use Rattle.history.specs.Events.{TransportFits, addressesOf, asks, countsAs, countsBy}
+use Rattle.history.proofs.Asking.{asks-no-other}
 
 -- ---- Errors count as nothing
 pub record Silent (r : ReadMessage) : Type 0 where
@@ -163,19 +163,13 @@ module _ (call : FromClient) (s reply : List ℕ) (h : Bytes s) where
 
 -- ---- An Allocate of a client whose lifetime lasts counts as nothing, whatever comes back
 module _ (call : FromClient) (s : List ℕ) (past : List Counted) (asked : asks Allocate s ≡ true) (lasts : granted past (call .«five_tuple») (call .time) ≡ true) where
-  -- it is no other request
-  not-asks : (method : Method) (c : Counted) → eqb (requestType Allocate) (requestType method) ≡ false → pick (asks method s) c nothing ≡ nothing
-  not-asks method c other =
-      let type : num s 0 2 ≡ requestType Allocate = eqb-true _ _ asked in
-      rw (type, other)
-
   message-left-out : (m : Message) → withoutRepeats past (countsAs call s m) ≡ nothing
   message-left-out (AllocateSuccess id relay port seconds client) = rw (asked, lasts)
-  message-left-out (RefreshSuccess id seconds) = ap (withoutRepeats past) (not-asks Refresh _ refl)
+  message-left-out (RefreshSuccess id seconds) = rw (asks-no-other Allocate Refresh s refl asked)
   message-left-out (BareSuccess Allocate id) = refl
   message-left-out (BareSuccess Refresh id) = refl
-  message-left-out (BareSuccess CreatePermission id) = ap (withoutRepeats past) (not-asks CreatePermission _ refl)
-  message-left-out (BareSuccess ChannelBind id) = ap (withoutRepeats past) (not-asks ChannelBind _ refl)
+  message-left-out (BareSuccess CreatePermission id) = rw (asks-no-other Allocate CreatePermission s refl asked)
+  message-left-out (BareSuccess ChannelBind id) = rw (asks-no-other Allocate ChannelBind s refl asked)
   message-left-out (Error method id code) = refl
   message-left-out (UnknownAttributes method id count) = refl
   message-left-out (DataIndication id peer port start len) = refl

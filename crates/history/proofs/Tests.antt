@@ -87,6 +87,14 @@ module _ (t : ℕ) where
   unfolding holds liveAllocation
   own-is C s e = let r = both-parts _ _ e in (ltb-true _ _ (r .0), five-tuple-same _ _ (r .1))
 
+  -- the slot that was found for a 5-tuple is live and has it
+  pub found-own : (C : FiveTuple) (l : List Slot) → has (find (inSlot (holds t C)) l) ≡ true
+      → (k : ℕ) × (find (inSlot (holds t C)) l ≡ At k) × Live t (slotAt l k) × (slotAt l k .allocation .«five_tuple» ≡ C)
+  found-own C l e =
+      let f = has-at _ e in
+      let o = own-is C (slotAt l (f .0)) (find-some (inSlot (holds t C)) l freshSlot (f .0) (f .1) .0) in
+      (f .0, f .1, o .0, o .1)
+
   pub port-is : (R : ℕ) (s : Slot) → inSlot (holdsPort t R) s ≡ true → Live t s × (s .allocation .port ≡ R)
   unfolding holdsPort liveAllocation
   port-is R s e = let r = both-parts _ _ e in (ltb-true _ _ (r .0), eqb-true _ _ (r .1))
