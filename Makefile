@@ -27,7 +27,7 @@ run:
 fuzz: $(CALLS)
 	@CALLS=$(CALLS) tests/calls/compare --scripts $(N) --lines 200 --seed new
 
-# Whether the tests of calls can fail: each of some twenty stand-ins with one fault must be found. Some seven minutes.
+# Whether the tests of calls can fail: each of some forty stand-ins with one fault must be found. Some ten minutes.
 faults:
 	tests/calls/faults
 

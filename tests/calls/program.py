@@ -8,6 +8,7 @@ ROOT = pathlib.Path(__file__).resolve().parents[2]
 SAMPLE = ROOT / "crates/calls"
 
 sys.path.insert(0, str(ROOT / "tests/model"))
+from calls import argument
 
 
 def find(given=None):
@@ -18,10 +19,11 @@ def find(given=None):
     return path
 
 
-def run(path, text, seconds=60):
-    """The program's answers to the whole text, and what is wrong with how it ended (empty: nothing)."""
+def run(path, text, seconds=60, denied=None):
+    """The program's answers to the whole text, with its text of denied prefixes, and what is wrong with how it ended (empty: nothing)."""
     try:
-        ended = subprocess.run([path], input=text, capture_output=True, timeout=seconds)
+        with argument(denied) as file:
+            ended = subprocess.run([path, *file], input=text, capture_output=True, timeout=seconds)
     except subprocess.TimeoutExpired as hang:
         return hang.stdout or b"", f"did not end in {seconds} seconds"
     if ended.returncode != 0:

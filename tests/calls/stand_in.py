@@ -1,7 +1,8 @@
 """A stand-in for `calls`, made of the model, with at most one fault: what tests/calls/faults tries the tests on.
 
-    python3 tests/calls/stand_in.py FAULT <script
+    python3 tests/calls/stand_in.py FAULT [FILE] <script
 """
+import itertools
 import os
 import sys
 import time
@@ -9,6 +10,7 @@ import time
 sys.dont_write_bytecode = True
 import program
 import calls as model
+import prefixes
 import relay
 
 FAULT = sys.argv[1]
@@ -37,12 +39,139 @@ def for_any_user(allocate):
     return allocated
 
 
+def told_437(_):
+    def repeated(self, now, relay_addr, tuple5, m, slot):
+        raise relay.Error(437, "has allocation")
+    return repeated
+
+
 def extended(repeat):
     def repeated(self, now, relay_addr, tuple5, m, slot):
         out = repeat(self, now, relay_addr, tuple5, m, slot)
         slot.expiry = now + 600
         return out
     return repeated
+
+
+# -- denied prefixes
+
+
+def looked_up(covers):
+    """A lookup by a test of the address and one prefix."""
+    return lambda _: lambda self, addr: any(covers(int.from_bytes(addr, "big"), prefix) for prefix in self.prefixes)
+
+
+def shortened(prefix):
+    """Without its last bit."""
+    return prefixes.cut(prefix[0], max(0, prefix[1] - 1))
+
+
+def by_the_last_node(_):
+    def covered(self, addr):
+        bits = format(int.from_bytes(addr, "big"), "032b")
+        return prefixes.cut(int(bits, 2), max(n for n in range(33) if bits[:n] in self.nodes)) in self.prefixes
+    return covered
+
+
+class FirstOnly:
+    """Denies what the tree does, the first time that it is asked."""
+
+    def __init__(self, denied):
+        self.denied, self.is_first = denied, True
+
+    def covers(self, addr):
+        is_first, self.is_first = self.is_first, False
+        return is_first and self.denied.covers(addr)
+
+
+def nothing(_):
+    return relay.Denied()
+
+
+def with_denied(change):
+    """A request that is answered as if what is denied were changed."""
+    def changed(request):
+        def answered(self, *call):
+            kept, self.denied = self.denied, change(self.denied)
+            try:
+                return request(self, *call)
+            finally:
+                self.denied = kept
+        return answered
+    return changed
+
+
+def denied_early(create_permission):
+    def created(self, now, user, tuple5, m):
+        self.owned(now, user, tuple5)
+        peers = [relay.read_address(v, m.txid) for v in m.all(relay.A_PEER)]
+        if None not in peers and any(len(a) == 4 and self.denied.covers(a) for a, _ in peers):
+            raise relay.Error(403, "denied")
+        return create_permission(self, now, user, tuple5, m)
+    return created
+
+
+def denied_late(request):
+    """All other checks are made first, on a slot that is put back."""
+    def answered(self, now, user, tuple5, m):
+        try:
+            return request(self, now, user, tuple5, m)
+        except relay.Error as error:
+            if error.code == 403:
+                slot = self.slots[self.find_tuple(now, tuple5)]
+                kept = list(slot.perms), list(slot.chans)
+                with_denied(nothing)(request)(self, now, user, tuple5, m)
+                slot.perms, slot.chans = kept
+            raise
+    return answered
+
+
+def denied_clients(peer_datagram):
+    def datagram(self, *call):
+        out = peer_datagram(self, *call)
+        if len(out[1].client_addr) == 4 and self.denied.covers(out[1].client_addr):
+            raise relay.Drop("denied")
+        return out
+    return datagram
+
+
+def up_to_a_bad_line(load):
+    return lambda self, text: load(self, b"\n".join(itertools.takewhile(self.read_line, text.split(b"\n"))))
+
+
+def bad_line_first(load):
+    return lambda self, text: 9 if any(self.read_line(line) is None for line in model.split_lines(text)) else load(self, text)
+
+
+def fewer_nodes(load):
+    return lambda self, text: load(self, text) or (10 if len(self.nodes) > 511 else 0)
+
+
+# A fault, and the function of the model that is changed for it.
+DENIED_FAULTS = {
+    "the last bit of a prefix is not compared": (relay.Denied, "covers", looked_up(lambda a, prefix: prefixes.covers(shortened(prefix), a))),
+    "the lookup stops one bit early": (relay.Denied, "covers", looked_up(lambda a, prefix: prefix[1] < 32 and prefixes.covers(prefix, a))),
+    "a prefix of length 0 is not seen": (relay.Denied, "covers", looked_up(lambda a, prefix: prefix[1] > 0 and prefixes.covers(prefix, a))),
+    "the last node alone is asked": (relay.Denied, "covers", by_the_last_node),
+    "a list ends at its bad line": (relay.Denied, "load", up_to_a_bad_line),
+    "a bad line goes before the lack of room": (relay.Denied, "load", bad_line_first),
+    "512 nodes are too many": (relay.Denied, "load", fewer_nodes),
+    "403 before 443": (relay.Relay, "create_permission", denied_early),
+    "403 after 508": (relay.Relay, "create_permission", denied_late),
+    "only the first address is looked up": (relay.Relay, "create_permission", with_denied(FirstOnly)),
+    "ChannelBind looks nothing up": (relay.Relay, "channel_bind", with_denied(nothing)),
+    "ChannelBind looks its peer up last": (relay.Relay, "channel_bind", denied_late),
+    "data for a client that is listed is dropped": (relay.Relay, "peer_datagram", denied_clients),
+}
+
+
+def spoil_denied():
+    if FAULT in DENIED_FAULTS:
+        rule(*DENIED_FAULTS[FAULT])
+    elif FAULT == "takes a list of 65,537 bytes":
+        model.LONGEST_TEXT = 65537
+    elif FAULT == "reads a list once":
+        model.open = lambda name, mode: open(name, mode, buffering=0)
 
 
 def spoil_rules():
@@ -57,6 +186,8 @@ def spoil_rules():
     elif FAULT == "a lifetime of 3,601 seconds is granted":
         relay.granted_lifetime = lambda value, refresh: 600 if value is None else value if value == 3601 or refresh and value == 0 \
             else max(600, min(value, 3600))
+    elif FAULT == "a repeat gets 437":
+        rule(relay.Relay, "repeat", told_437)
     elif FAULT == "a repeat of another user is answered":
         rule(relay.Relay, "allocate", for_any_user)
     elif FAULT == "a repeat extends its allocation":
@@ -129,9 +260,26 @@ def answer_all(state, lines):
     return write(gathered)
 
 
+def started(files):
+    """An empty relay that denies what the file lists, or none where there is nothing more to answer."""
+    try:
+        text = model.denied_text(files[:1] if FAULT == "takes a second argument" else files)
+    except (OSError, ValueError) as wrong:
+        if FAULT != "gives no reason":
+            sys.stderr.write(f"calls: {wrong}\n")
+        write(b"E\n")
+        return None
+    state, refused = model.relay_denying(text)
+    write(refused)
+    return state if not refused or FAULT == "goes on after a refused list" else None
+
+
 def main():
     spoil_rules()
-    state = relay.Relay(0) if FAULT == "a repeat gets 437" else relay.Relay()
+    spoil_denied()
+    state = started(sys.argv[2:])
+    if state is None:
+        return
     for lines in batches():
         if not answer_all(state, lines):
             if FAULT == "lists after a lost answer":

@@ -164,12 +164,78 @@ def case_bad_arguments(lab):
 
 
 def case_check_and_version(lab):
-    "--check looks at options and users and binds nothing; --version; --listen=ADDRESS:PORT"
+    "--check looks at options, users and denied prefixes and binds nothing; --version; --listen=ADDRESS:PORT"
     with lab.relayd():
         done = lab.run("relay", RELAYD, "--check", f"--listen={SERVER}:{PORT}", "--user=3", timeout=10)
         assert done.returncode == 0 and "good" in done.stdout, done
     done = lab.run("relay", RELAYD, "--version", timeout=10)
     assert done.returncode == 0 and done.stdout.startswith("relayd 0."), done
+
+
+def whole_tree():
+    """Lines whose prefixes take 511 nodes."""
+    return "".join(f"{first}.0.0.0/8\n" for first in range(256))
+
+
+def case_denied_lists(lab):
+    "--check says how many prefixes are denied and how many of 512 nodes they take; a bad list is told with its line, there and at the start"
+    listed = lab.folder / "list"
+    run = lambda *options: lab.run("relay", *lab.relayd_command("--denied", listed, *options), timeout=10)
+    full = whole_tree() + "0.0.0.0/9\n"
+    for text, options, word in (("# none\n", [], "denied prefixes: 3 (3 by default, 0 of"), ("10.0.0.0/8\n", [], f"4 (3 by default, 1 of {listed}), 36 of 512 nodes"),
+                                (full, ["--allow-local-peers"], f"257 (257 of {listed}), 512 of 512 nodes"), ("", ["--allow-local-peers"], "denied prefixes: none"),
+                                (f"{SERVER}\n", [], f"its own address {SERVER} is denied by {SERVER}, line 1 of {listed}")):
+        listed.write_text(text)
+        done = run("--check", *options)
+        assert done.returncode == 0 and word in done.stdout, done
+    for text, word in (("10.0.0.0/8\n\n10.1.2.3/8\n", "line 3: 10.1.2.3/8 has bits behind its prefix: write 10.0.0.0/8, or 10.1.2.3 for that address alone"),
+                       ("10.0.0.0/33\n", "line 1: '/33' is not a length from /0 to /32"), ("# x\nthe-press\n", "line 2: 'the-press' is not an IP address: write one as"),
+                       ("fd00::/8\n", "line 1: fd00::/8 is IPv6"), ("10.0.0.0/8 works\n", "line 1: '10.0.0.0/8 works' is more than a prefix"),
+                       (full + "0.128.0.0/9\n0.64.0.0/10\n", "line 258: 0.128.0.0/9 does not fit: the list may take 512 nodes")):
+        listed.write_text(text)
+        for options in (["--allow-local-peers"], ["--allow-local-peers", "--check"]):
+            done = run(*options)
+            assert done.returncode == 2 and f"{listed}, {word}" in done.stderr, done
+    assert "the whole list would take 514" in run("--allow-local-peers").stderr
+    listed.unlink()
+    done = run()
+    assert done.returncode == 2 and f"cannot read denied prefixes from {listed}" in done.stderr, done
+
+
+def case_denied_stays(lab):
+    "SIGHUP leaves the denied prefixes as they were at the start, and says so where their file has changed or is bad"
+    listed = lab.folder / "stays"
+    listed.write_text(f"{STRANGER}\n")
+    with lab.relayd("--denied", listed) as relayd:
+        client = lab.client()
+        client.allocate()
+        stays = "the denied prefixes stay as they were, until relayd is restarted"
+        for text, word in ((f"{STRANGER} # the same\n", "there is no users' file to read again"), (f"{PEER}\n", f"{stays}: {listed} has changed"),
+                           ("x\n", f"{stays}: {listed}, line 1: 'x' is not an IP address")):
+            listed.write_text(text)
+            relayd.process.send_signal(signal.SIGHUP)
+            wait_for(lambda: word in "\n".join(relayd.written()), word)
+        assert "\n".join(relayd.log()).count(stays) == 2
+        client.permit(PEER)
+        refused(lambda: client.permit(STRANGER), 403)
+
+
+def case_calls_and_its_list(lab):
+    "calls is started with a list, or with none where nothing is denied; one that refuses it, or takes none, is told, with status 2"
+    script, count = lab.folder / "listed-calls", lab.folder / "arguments"
+
+    def program(body):
+        script.write_text(f"#!/bin/sh\n{body}\n")
+        script.chmod(0o755)
+        return ("--calls", script)
+    for options, words in ((["--allow-local-peers"], "0\n"), ([], "1\n")):
+        with lab.relayd(*options, calls=program(f'echo $# >{count}; exec {CALLS} "$@"')):
+            assert count.read_text() == words
+    for body, word in (("printf 'R\\t9\\n'", "refuses the list of denied prefixes: 9, a bad line"),
+                       ("printf 'R\\t10\\n'", "refuses the list of denied prefixes: 10, more nodes than 512"), ("echo E", "cannot read the list of denied prefixes"),
+                       (f"exec {CALLS}", "takes no list of denied prefixes: it does not deny 127.0.0.0")):
+        done = lab.run("relay", *lab.relayd_command(calls=program(body)), timeout=10)
+        assert done.returncode == 2 and f"{script} {word}" in done.stderr, done
 
 
 def case_where_calls_is(lab):
@@ -191,4 +257,4 @@ def case_where_calls_is(lab):
 
 
 CASES = [case_status, case_long_history, case_hello, case_kill_signals, case_users, case_reload, case_taken_port, case_bad_arguments,
-         case_check_and_version, case_where_calls_is]
+         case_check_and_version, case_denied_lists, case_denied_stays, case_calls_and_its_list, case_where_calls_is]

@@ -162,6 +162,23 @@ def case_program_killed(lab):
         assert "\n".join(relayd.written()).count("calls has ended (signal: 9") == 3
 
 
+def case_denied_after_a_restart(lab):
+    "a program that is started again has the denied prefixes again, whatever became of their file, and what it had permitted"
+    listed = lab.folder / "denied-again"
+    listed.write_text(f"{STRANGER}\n")
+    with lab.relayd("--denied", listed) as relayd:
+        client, peer = ready(lab)
+        listed.unlink()
+        for times in (1, 2):
+            os.kill(relayd.child(), signal.SIGKILL)
+            runs_again(relayd, times)
+            refused(lambda: client.permit(STRANGER), 403)
+            refused(lambda: client.bind(0x4000, (STRANGER, 5000)), 403)
+            refused(lambda: client.permit("127.0.0.1"), 403)
+            carries(client, peer)
+        assert set(relayd.status().of(client).permissions) == {PEER}
+
+
 def case_program_killed_at_work(lab):
     "the program is killed amid data and requests, and amid a burst: every request is answered, and every packet comes once, in order"
     with lab.relayd() as relayd:
@@ -186,7 +203,7 @@ def case_program_killed_at_work(lab):
 def case_program_fails_for_good(lab):
     "a program that ends at every start is given up with status 1, and relayd says why"
     script = lab.folder / "short-lived"
-    script.write_text(f"#!/bin/sh\nread line; echo D; [ -e {lab.folder}/broken ] && exit 3; exec {CALLS}\n")
+    script.write_text(f"#!/bin/sh\nread line; echo D; [ -e {lab.folder}/broken ] && exit 3; exec {CALLS} \"$@\"\n")
     script.chmod(0o755)
     (lab.folder / "broken").unlink(missing_ok=True)
     with lab.relayd("--calls", script, calls=(), status=1) as relayd:
@@ -292,8 +309,8 @@ def case_events_by_default(lab):
         # A reply may be out before its line is.
         wait_for(lambda: "refused" in log.read_text(), "the refusal's line")
         words = [line.split(" ", 1)[1] for line in log.read_text().splitlines()]
-        assert [line.split(":")[0].split(",")[0] for line in words[1:3]] == ["allocation made", "permission made"], words
-        assert len(words) == 4 and "refused, 437" in words[3], words
+        assert [line.split(":")[0].split(",")[0] for line in words[1:4]] == ["denied prefixes", "allocation made", "permission made"], words
+        assert len(words) == 5 and "refused, 437" in words[4], words
     finally:
         process.terminate()
         assert process.wait(2) == 0
@@ -332,7 +349,7 @@ def case_reports(lab):
 
 
 def case_local_peers(lab):
-    "peers on the relay's loopback and links get 403, the relay's own address does not; --allow-local-peers lets them in"
+    "by default peers on the relay's loopback and links are denied, the relay's own address is not; none is with --allow-local-peers or --relay 127.0.0.1"
     hidden = lab.udp("relay", "127.0.0.1")
     with lab.relayd() as relayd:
         client = lab.client()
@@ -344,14 +361,18 @@ def case_local_peers(lab):
         nothing(hidden)
         client.permit(SERVER)
         assert set(relayd.status().of(client).permissions) == {SERVER}
-        assert "403 Forbidden: peer 169.254.169.254 is local to the relay's host" in "\n".join(relayd.log())
-    with lab.relayd("--allow-local-peers", "--relay", "127.0.0.1"):
-        client = lab.client()
-        client.allocate()
-        client.permit("127.0.0.1")
-        client.send(hidden.getsockname(), b"in a test")
-        assert hidden.recv(100) == b"in a test"
+        assert "403 Forbidden: peer 169.254.169.254 is denied by 169.254.0.0/16, a default of relayd" in "\n".join(relayd.log())
+        assert "denied prefixes: 3 (3 by default), 32 of 512 nodes" in relayd.status().text
+    for options in (["--allow-local-peers"], ["--relay", "127.0.0.1"]):
+        with lab.relayd(*options) as relayd:
+            client = lab.client()
+            client.allocate()
+            client.permit("127.0.0.1", "169.254.169.254", "0.0.0.0")
+            assert "denied prefixes: none" in relayd.status().text
+            hidden.settimeout(2)
+            client.send(hidden.getsockname(), b"in a test")
+            assert hidden.recv(100) == b"in a test"
 
 
-CASES = [case_burst, case_flood, case_unread_log, case_unread_output, case_program_killed, case_program_killed_at_work, case_program_fails_for_good,
-         case_program_hangs, case_ends_while_it_hangs, case_signals, case_events, case_events_by_default, case_reports, case_local_peers]
+CASES = [case_burst, case_flood, case_unread_log, case_unread_output, case_program_killed, case_denied_after_a_restart, case_program_killed_at_work,
+         case_program_fails_for_good, case_program_hangs, case_ends_while_it_hangs, case_signals, case_events, case_events_by_default, case_reports, case_local_peers]

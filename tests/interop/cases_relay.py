@@ -297,5 +297,38 @@ def case_repeated_allocate(lab):
         assert "\n".join(relayd.events()).count("allocation told again: ") == 2
 
 
+def case_denied_peers(lab):
+    "--denied: a listed peer gets 403 by CreatePermission and by ChannelBind, alone or among others, and none is permitted; others work"
+    listed, metrics = lab.folder / "denied", lab.folder / "denied-metrics"
+    listed.write_text(f"# the works\n{STRANGER}   # the press\n10.0.0.0/8\n")
+    with lab.relayd("--denied", listed, "--metrics", metrics) as relayd:
+        client, peer, stranger = lab.client(), lab.peer(), lab.peer(STRANGER)
+        client.allocate()
+        for host in (STRANGER, "10.0.0.0", "10.255.255.255"):
+            refused(lambda: client.permit(host), 403)
+            refused(lambda: client.bind(0x4000, (host, 5000)), 403)
+        refused(lambda: client.permit(PEER, STRANGER), 403)
+        refused(lambda: client.permit(STRANGER, PEER), 403)
+        own = relayd.status().of(client)
+        assert (own.permissions, own.channels) == ({}, {}), "a refused request has permitted somebody"
+        for other in (peer, stranger):
+            client.send(other.getsockname(), b"not permitted")
+            nothing(other)
+        client.permit("9.255.255.255", "11.0.0.0", PEER)
+        client.bind(0x4000, peer.getsockname())
+        client.channel(0x4000, b"to the peer")
+        assert peer.recvfrom(65536) == (b"to the peer", client.relayed)
+        stranger.sendto(b"no", client.relayed)
+        peer.sendto(b"back", client.relayed)
+        assert client.receive() == ("channel", 0x4000, b"back")
+        nothing(client)
+        told = "\n".join([relayd.status().text, *relayd.log(), metrics.read_text()])
+        for word in (f"denied prefixes: 5 (3 by default, 2 of {listed}), ", "8 refused, 8 of them for a denied peer",
+                     'relayd_requests_refused_total{method="ChannelBind",code="403"} 3', f"403 Forbidden: peer {STRANGER} is denied by {STRANGER}, line 2 of {listed}",
+                     f"403 Forbidden: peer 10.255.255.255 is denied by 10.0.0.0/8, line 3 of {listed}"):
+            assert word in told, (word, told)
+
+
 CASES = [case_send_and_data, case_two_clients, case_zero_length, case_empty_datagram, case_noise, case_1500_bytes, case_vanished_client, case_64_allocations,
-         case_ports_at_random, case_port_scan, case_permission_lapses, case_allocation_lapses, case_repeated_allocate]
+         case_ports_at_random, case_port_scan, case_permission_lapses, case_allocation_lapses, case_repeated_allocate,
+         case_denied_peers]

@@ -17,6 +17,7 @@ import turn
 
 ROOT = pathlib.Path(__file__).resolve().parents[2]
 CREDENTIALS = pathlib.Path("/etc/mudsluice/credentials")
+DENIED = pathlib.Path("/etc/mudsluice/denied")
 UNIT = pathlib.Path("/lib/systemd/system/relayd.service")
 
 
@@ -52,6 +53,12 @@ def passes():
     client.bind(0x4000, peer.getsockname())
     client.channel(0x4000, b"through the package")
     assert peer.recv(100) == b"through the package"
+    try:
+        client.permit("192.0.2.1")
+    except turn.TurnError as error:
+        assert error.code == 403, error
+    else:
+        raise AssertionError("a denied peer is permitted")
 
 
 def hears(manager, word):
@@ -61,8 +68,9 @@ def hears(manager, word):
 
 
 def service(user):
-    """Starts relayd by the unit's lines, and ends it."""
+    """Starts relayd by the unit's lines, with a denied prefix, and ends it."""
     options = shlex.split(pathlib.Path("/etc/default/mudsluice").read_text(), comments=True)[0].split("=", 1)[1]
+    options += f" --denied {DENIED}"
     folder = pathlib.Path("/run") / unit_lines("RuntimeDirectory")[0]
     folder.mkdir()
     os.chown(folder, pwd.getpwnam(user).pw_uid, pwd.getpwnam(user).pw_gid)
@@ -90,6 +98,12 @@ def service(user):
         process.wait()
 
 
+def denied(user):
+    """The package's list denies nobody, and the service's user can read it. A prefix is added to it."""
+    assert "denied prefixes: none" in run(*as_unit(user, command("ExecStartPre", f"--listen 127.0.0.1:3478 --denied {DENIED}")))
+    DENIED.write_text(DENIED.read_text() + "192.0.2.0/24\n")
+
+
 def credentials(user):
     """A user is added where the package has its files, and the service's user can read it. Not where relayd was built without its front end."""
     if subprocess.run([ROOT / "host/relayd/packages", "--there"], check=False).returncode != 0:
@@ -112,6 +126,7 @@ def main(package):
     assert "Mudsluice" in run("man", "--pager=cat", "relayd")
     assert "49152-49279" in pathlib.Path("/usr/lib/sysctl.d/50-mudsluice.conf").read_text()
     credentials(user)
+    denied(user)
     service(user)
     run("dpkg", "--purge", "mudsluice")
     assert not UNIT.exists() and not os.path.exists("/usr/lib/mudsluice") and not os.path.exists("/etc/mudsluice")

@@ -22,6 +22,7 @@ class Context:
         self.lengths = {k: 'refl' for k in self.references}
         self.leads = {}
         self.cuts = {}
+        self.parts = set()
         self.elements = {}
 
     def first_value(self, k):
@@ -41,7 +42,7 @@ class Context:
 
     def copy(self):
         other = copy.copy(self)
-        for name in ('entries', 'written', 'values', 'now', 'lengths', 'leads', 'cuts', 'elements'):
+        for name in ('entries', 'written', 'values', 'now', 'lengths', 'leads', 'cuts', 'parts', 'elements'):
             setattr(other, name, copy.copy(getattr(self, name)))
         return other
 

@@ -3,7 +3,6 @@ import re
 
 from .context import Context
 from .types import Array, Bool, Named, Number, Slice, atom, hyphens, listed, nth_of, subscript, tupled
-from .walk import Unknown
 
 
 class Frame:
@@ -18,9 +17,6 @@ class Frame:
         self.references = self.start.references
         self.changed = [k for k in self.references if self.types[k].mutable]
         self.slices = [k for k in self.references if isinstance(self.types[k], Slice)]
-        for k in self.references:
-            if not isinstance(self.types[k], Slice) and not self.types[k].mutable:
-                raise Unknown('a parameter that is a `&T`')
 
     @property
     def clauses(self):
@@ -58,7 +54,8 @@ class Frame:
             verb, end = ('stay-slice', '') if type_.mutable else ('stay-none-slice', ' yes')
             return '%s (%d ∷ []) tt (plain (λ _. %s))%s' % (verb, type_.lifetime, type_.to.logic, end)
         if type_.is_reference:
-            return 'stay-ref (%d ∷ []) tt (plain (λ _. %s))' % (type_.lifetime, type_.to.logic)
+            verb, end = ('stay-ref', '') if type_.mutable else ('stay-none-ref', ' yes')
+            return '%s (%d ∷ []) tt (plain (λ _. %s))%s' % (verb, type_.lifetime, type_.to.logic, end)
         if isinstance(type_, Array):
             return 'stay-dropped (ArrayOf (plain (λ _. %s)) (λ _. tt) %d) yes' % (type_.of.logic, type_.size)
         return 'stay-none (λ _. %s) yes' % type_.logic
@@ -69,8 +66,10 @@ class Frame:
             return 'goes-slice 𝓤 H A W %d %d tt (plain (λ _. %s))' % (count, type_.lifetime, type_.to.logic)
         if isinstance(type_, Slice):
             return 'goes-none-slice 𝓤 H A W %d (%d ∷ []) tt (plain (λ _. %s)) yes' % (count, type_.lifetime, type_.to.logic)
-        if type_.is_reference:
+        if type_.is_reference and type_.mutable:
             return 'goes-ref 𝓤 H A W %d %d tt (plain (λ _. %s))' % (count, type_.lifetime, type_.to.logic)
+        if type_.is_reference:
+            return 'goes-none-ref 𝓤 H A W %d (%d ∷ []) tt (plain (λ _. %s)) yes' % (count, type_.lifetime, type_.to.logic)
         if isinstance(type_, Array):
             array = '(ArrayOf (plain (λ _. %s)) (λ _. tt) %d)' % (type_.of.logic, type_.size)
             return 'goes-dropped 𝓤 H A W %d %s yes (λ κs x f. refl)' % (count, array)
@@ -137,7 +136,7 @@ class Frame:
 
     def last_owner(self, k):
         """What a reference owns at the end."""
-        return 'Own-%s %s' % (self.names[k], ('z-' if k in self.changed else '') + self.names[k])
+        return 'Own-%s %s' % (self.names[k], 'z-' + self.names[k] if k in self.changed else self.start.first_behind(k))
 
     def joining_lines(self):
         """The tokens are joined to one entry, then all parameters to another, and then the result is owned."""
@@ -287,7 +286,7 @@ class Frame:
     def tells_of(self, k):
         type_ = self.types[k]
         if type_.is_reference:
-            verb = ('mut-slice-tells' if type_.mutable else 'shr-slice-tells') if isinstance(type_, Slice) else 'mut-tells'
+            verb = ('mut' if type_.mutable else 'shr') + ('-slice-tells' if isinstance(type_, Slice) else '-tells')
             return '%s (named %d) (%s) %s' % (verb, type_.lifetime, nth_of('κs', type_.lifetime), type_.to.logic)
         if isinstance(type_, Number):
             return 'uint-tells w%d' % type_.width

@@ -37,7 +37,8 @@ def print_loan(walk, call, j):
     owner = walk.context.root(local)
     mark = '%s-%s' % (call.mark, call.parameter_names[j])
     if owner in walk.names and walk.types[owner].is_reference:
-        loan = lend_held(walk, call.types[j], local, owner, mark)
+        lend = lend_part if local in walk.context.parts else lend_held
+        loan = lend(walk, call, j, local, owner, mark)
         place = walk.context.position(('reference', owner))
         walk.context.entries[place:place + 2] = [('lent', j), ('lent token', j), ('kept', owner), ('kept rest', owner)]
     else:
@@ -46,9 +47,26 @@ def print_loan(walk, call, j):
     return loan
 
 
-def lend_held(walk, wanted, local, k, mark):
+def lend_part(walk, call, j, local, k, mark):
+    """A field of what lies behind a `&T` that is held is lent on. The answer names it, and Rows.antt has where it lies: NAME-place, NAME-part and NAME-parts."""
+    context, held, wanted = walk.context, walk.types[k], call.types[j]
+    if held.mutable or wanted.mutable:
+        raise Unknown('a field of what lies behind a `&mut`')
+    field = walk.ask('part.' + call.question)
+    move, now = context.bring_reference(k), atom(context.now[k])
+    base, offset = context.base(k), context.offset(k)
+    walk.out('%spart-ref ! tt %s %s %s-place %s-part (%s-parts 𝓤 H A W) %s %s %s %s (λ δ-%s.'
+             % (move, held.to.logic, wanted.to.logic, field, field, field, context.lifetime(k), base, offset, now, mark))
+    walk.open += 1
+    place = '(%s-place %s)' % (field, offset)
+    argument = 'ref %s %s δ-%s (%s-part %s)' % (base, place, mark, field, now)
+    lifetime, share = nth_of('κs', held.lifetime), nth_of('qs', held.lifetime)
+    return Loan(k, 'copy-slice', lifetime, share, base, offset, argument, 'vptr %s %s' % (base, place), mark)
+
+
+def lend_held(walk, call, j, local, k, mark):
     """A reference that the function itself holds is passed on."""
-    context, held = walk.context, walk.types[k]
+    context, held, wanted = walk.context, walk.types[k], call.types[j]
     move = context.bring_reference(k)
     base, offset, now, machine = context.base(k), context.offset(k), atom(context.now[k]), context.machine(k)
     place = '%s %s %s' % (base, offset, now)

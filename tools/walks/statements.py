@@ -70,6 +70,9 @@ def print_address(walk, k, right):
     cell = walk.context.cell(place.local)
     if place.is_local:
         way = '(from ! (stop !))'
+    elif place.through and place.fields:
+        walk.context.parts.add(k)
+        way = '(from ! (hop ! (look ! %d refl) (fld ! refl (stop !))))' % cell
     elif place.through:
         way = '(from ! (hop ! (look ! %d refl) (stop !)))' % cell
     else:

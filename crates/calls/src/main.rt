@@ -1,6 +1,11 @@
 // The call program: answers each line of its standard input as soon as it has it, and lists at the end. It reads, finds the lines and
 // writes; what a line is answered with is `script`'s, and the listing is `listing`'s. The answers to the lines that came with one read are
-// written together, before it reads again.
+// written together, before it reads again. An argument names a file of denied prefixes, which is read before the first line.
+mod denials;
+
+use denials::begin;
+use denials::is_ready;
+use denials::kept_by;
 use libc::STDIN_FILENO;
 use libc::STDOUT_FILENO;
 use listing::Listed;
@@ -9,7 +14,6 @@ use script::run_line;
 use slot::Slot;
 use slot::fresh_slot;
 use state::Bookkeeping;
-use state::fresh_bookkeeping;
 use text::scan::find_far;
 ghost use Prim.Native.Nat.{_+_, _<_, _≤_};
 ghost use lib.Dec.{leb};
@@ -318,8 +322,12 @@ fn write_listing(slots: &[Slot], clock: u64, is_served: bool)
 fn main() {
     let slot = fresh_slot();
     let mut slots = [slot; 64];
-    let mut bookkeeping = fresh_bookkeeping();
     let mut input = [0u8; 65536];
+    let start = begin(&mut input);
+    if !is_ready(start) {
+        return;
+    }
+    let mut bookkeeping = kept_by(start);
     let mut output = [0u8; 36864];
     let is_served = serve(&mut slots, &mut bookkeeping, &mut input, &mut output);
     write_listing(&slots, bookkeeping.clock, is_served);

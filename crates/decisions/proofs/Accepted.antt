@@ -106,29 +106,32 @@ module _ (call : ClientCall) (s : List ℕ) (slot : Slot) (out : Out) where
     refreshes e = let q = answered _ _ s _ _ e in record { owner = owns call s own was _ (q .0) .0; slot-is = cc; out-is = cc }
 
     -- ---- CreatePermission: each address has its permission
-    pub record Permits : Type 0 where
+    pub record Permits (denied : Bool) : Type 0 where
       pub owner : Owns call own was
       pub all-ipv4 : any ipv6Peer (peers s) ≡ false
+      pub none-denied : denied ≡ false
       pub room : permitAll (call .time) (peers s) was was .ok ≡ true
       pub slot-is : slot ≡ permitAll (call .time) (peers s) was was .slot
       pub out-is : out ≡ toClient (call .«five_tuple») (bareSuccess CreatePermission (transactionId s))
 
-    pub permits : createPermission call s own was ≡ write slot out → Permits
+    pub permits : {denied : Bool} → createPermission call s denied own was ≡ write slot out → Permits denied
     unfolding createPermission createPermissionCode
-    permits e =
+    permits {denied} e =
         let q = answered _ _ s _ _ e in
         let owner = owns call s own was _ (q .0) in
         let some-peer = passed _ 400 _ (some (omega arith)) (owner .1) in
         let well-formed = passed _ 400 _ (some (omega arith)) (some-peer .1) in
         let ipv4 = passed (any ipv6Peer (peers s)) 443 _ (some (omega arith)) (well-formed .1) in
-        let room = passed (not (permitAll (call .time) (peers s) was was .ok)) 508 0 (some (omega arith)) (ipv4 .1) in
-        record { owner = owner .0; all-ipv4 = ipv4 .0; room = not-false _ (room .0); slot-is = cc; out-is = cc }
+        let reachable = passed denied 403 _ (some (omega arith)) (ipv4 .1) in
+        let room = passed (not (permitAll (call .time) (peers s) was was .ok)) 508 0 (some (omega arith)) (reachable .1) in
+        record { owner = owner .0; all-ipv4 = ipv4 .0; none-denied = reachable .0; room = not-false _ (room .0); slot-is = cc; out-is = cc }
 
     -- ---- ChannelBind: the permission and the channel are there
-    pub record Binds (number : ℕ) (peer : TransportAddress) : Type 0 where
+    pub record Binds (denied : Bool) (number : ℕ) (peer : TransportAddress) : Type 0 where
       pub owner : Owns call own was
       pub in-range : isChannelNumber number ≡ true
       pub ipv4 : isIpv6 (peer .address) ≡ false
+      pub none-denied : denied ≡ false
       pub number-free : numberTaken (call .time) number peer (was .channels) ≡ false
       pub peer-free : peerTaken (call .time) number peer (was .channels) ≡ false
       pub permitted : permit (call .time) (peer .address) was .ok ≡ true
@@ -136,16 +139,17 @@ module _ (call : ClientCall) (s : List ℕ) (slot : Slot) (out : Out) where
       pub slot-is : slot ≡ bound (call .time) number peer was
       pub out-is : out ≡ toClient (call .«five_tuple») (bareSuccess ChannelBind (transactionId s))
 
-    pub binds : channelBind call s own was ≡ write slot out → Binds (numberGiven (channelNumber s)) (firstPeer s .peer)
+    pub binds : {denied : Bool} → channelBind call s denied own was ≡ write slot out → Binds denied (numberGiven (channelNumber s)) (firstPeer s .peer)
     unfolding channelBind channelBindCode
-    binds e =
+    binds {denied} e =
         let q = answered _ _ s _ _ e in
         let owner = owns call s own was _ (q .0) in
         let number = passed _ 400 _ (some (omega arith)) (owner .1) in
         let peer = passed _ 400 _ (some (omega arith)) (number .1) in
         let range = passed (not (isChannelNumber (numberGiven (channelNumber s)))) 400 _ (some (omega arith)) (peer .1) in
         let ipv4 = passed (isIpv6 (firstPeer s .peer .address)) 443 _ (some (omega arith)) (range .1) in
-        let taken = passed _ 400 _ (some (omega arith)) (ipv4 .1) in
+        let reachable = passed denied 403 _ (some (omega arith)) (ipv4 .1) in
+        let taken = passed _ 400 _ (some (omega arith)) (reachable .1) in
         let leads = passed _ 400 _ (some (omega arith)) (taken .1) in
         let room = passed _ 508 _ (some (omega arith)) (leads .1) in
         let place = passed _ 508 0 (some (omega arith)) (room .1) in
@@ -153,6 +157,7 @@ module _ (call : ClientCall) (s : List ℕ) (slot : Slot) (out : Out) where
           owner = owner .0;
           in-range = not-false _ (range .0);
           ipv4 = ipv4 .0;
+          none-denied = reachable .0;
           number-free = taken .0;
           peer-free = leads .0;
           permitted = not-false _ (room .0);

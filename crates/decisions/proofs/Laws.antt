@@ -1,5 +1,5 @@
 -- Laws of what is decided of a call that is not refused.
-use Prim.Native.Nat.{ℕ, zero, suc, _+_, _-_, _<_, _≤_}
+use Prim.Native.Nat.{ℕ, zero, suc, _+_, _<_, _≤_}
 use mathlib.Core.Path.{_≡_, refl, sym, ap, subst, _∙_}
 use mathlib.Core.Bool.{Bool, true, false, false≢true}
 use mathlib.Core.List.{List}
@@ -31,7 +31,7 @@ use Rattle.decisions.specs.declared.client.Asked.{Asked}
 use Rattle.decisions.specs.declared.client.Asked.the-variants as Asked
 use Rattle.allocation_rules.specs.declared.Room.{Room}
 use Rattle.rules.specs.Change.{Out, Change, dropped, keep, write, outcomeOf, replyAfter}
-use Rattle.rules.specs.Inner.{writes, Gives, Answers}
+use Rattle.rules.specs.Inner.{Gives, Answers}
 use Rattle.allocation_rules.specs.Allocations.{portFor}
 use Rattle.stun.specs.declared.channel_data.ChannelMessage.{ChannelMessage}
 use Rattle.stun.specs.declared.channel_data.ChannelMessage.the-variants.{Data, Malformed}
@@ -181,22 +181,22 @@ dropped-answers : {out : Out} (own : Slot) (reply : List ℕ) → out ≡ droppe
 dropped-answers own reply e = rw e (gives-kept own (quiet-gives reply refl refl))
 
 module _ {survey : Survey} (own : Slot) (reply : List ℕ) (none : has (survey .own) ≡ false) (s : List ℕ) where
-  pub client-dropped : (call : FromClient) (asked : Asked) → isData asked ≡ true → (slots : List Slot) → Looked slots (wantedBy (Client call) asked) survey
-      → own ≡ atOr freshSlot (survey .own) slots → Answers (onAsked call s slots asked .change) own reply reply (unwritten Dropped own)
-  client-dropped call Asked.Allocate y = absurd (false≢true y)
-  client-dropped call Asked.Refresh y = absurd (false≢true y)
-  client-dropped call Asked.CreatePermission y = absurd (false≢true y)
-  client-dropped call Asked.ChannelBind y = absurd (false≢true y)
-  client-dropped call Asked.Send y =
+  pub client-dropped : (denied : Bool) (call : FromClient) (asked : Asked) → isData asked ≡ true → (slots : List Slot) → Looked slots (wantedBy (Client call) asked) survey
+      → own ≡ atOr freshSlot (survey .own) slots → Answers (onAsked denied call s slots asked .change) own reply reply (unwritten Dropped own)
+  client-dropped denied call Asked.Allocate y = absurd (false≢true y)
+  client-dropped denied call Asked.Refresh y = absurd (false≢true y)
+  client-dropped denied call Asked.CreatePermission y = absurd (false≢true y)
+  client-dropped denied call Asked.ChannelBind y = absurd (false≢true y)
+  client-dropped denied call Asked.Send y =
       own-answers call Asked.Send (sym none) (λ there slot. keep (send (asRules call) s there slot)) (dropped-answers own reply (send-unfound (asRules call) s own))
-  client-dropped call Asked.ChannelData y =
+  client-dropped denied call Asked.ChannelData y =
       own-answers call Asked.ChannelData (sym none) (λ there slot. keep (sendChannelData (asRules call) s there slot)) (dropped-answers own reply (channelled-unfound (asRules call) s own))
-  client-dropped call Asked.Nothing y = λ slots l e. dropped-answers own reply refl
+  client-dropped denied call Asked.Nothing y = λ slots l e. dropped-answers own reply refl
 
-  pub peer-dropped : (call : FromPeer) (slots : List Slot) → Looked slots (wantedBy (Peer call) Asked.Nothing) survey
-      → own ≡ atOr freshSlot (survey .own) slots → Answers (decided (Peer call) s slots .change) own reply reply (unwritten Dropped own)
+  pub peer-dropped : (denied : Bool) (call : FromPeer) (slots : List Slot) → Looked slots (wantedBy (Peer call) Asked.Nothing) survey
+      → own ≡ atOr freshSlot (survey .own) slots → Answers (decided denied (Peer call) s slots .change) own reply reply (unwritten Dropped own)
   unfolding decided relayFromPeer
-  peer-dropped call = peer-answers call (sym none) (relayFromPeer (call .time) (call .source) (call .id) s) (quiet-gives reply refl refl)
+  peer-dropped denied call = peer-answers call (sym none) (relayFromPeer (call .time) (call .source) (call .id) s) (quiet-gives reply refl refl)
 
 -- a request is no data
 pub not-data : {asked it : Asked} {P : Type 0} → asked ≡ it → isData it ≡ false → isData asked ≡ true → P
@@ -207,8 +207,8 @@ pub peer-data : {call : Call} {peer : FromPeer} {asked : Asked} (s : List ℕ) �
 peer-data {call} {peer} {asked} s e q = ap isData (subst (λ (x : Call). asked ≡ askedFor x s) e q)
 
 -- a slot is written only where one was found
-module _ (call : FromClient) (s : List ℕ) (slots : List Slot) where
-  asked-writes : (asked : Asked) (slot : Slot) (out : Out) → onAsked call s slots asked .change ≡ write slot out → has (onAsked call s slots asked .place) ≡ true
+module _ (denied : Bool) (call : FromClient) (s : List ℕ) (slots : List Slot) where
+  asked-writes : (asked : Asked) (slot : Slot) (out : Out) → onAsked denied call s slots asked .change ≡ write slot out → has (onAsked denied call s slots asked .place) ≡ true
   asked-writes Asked.Allocate slot out e = allocate-accepted (asRules call) s slot out (roomFor call slots) _ e .room
   asked-writes Asked.Refresh slot out e = refreshes (asRules call) s slot out _ _ e .owner .live
   asked-writes Asked.CreatePermission slot out e = permits (asRules call) s slot out _ _ e .owner .live
@@ -217,7 +217,8 @@ module _ (call : FromClient) (s : List ℕ) (slots : List Slot) where
   asked-writes Asked.ChannelData slot out e = kept-not-written e
   asked-writes Asked.Nothing slot out e = kept-not-written e
 
-pub decided-writes : (call : Call) (s : List ℕ) (slots : List Slot) (slot : Slot) (out : Out) → decided call s slots .change ≡ write slot out → has (decided call s slots .place) ≡ true
+pub decided-writes : (denied : Bool) (call : Call) (s : List ℕ) (slots : List Slot) (slot : Slot) (out : Out) → decided denied call s slots .change ≡ write slot out
+    → has (decided denied call s slots .place) ≡ true
 unfolding decided
-decided-writes (Client call) s slots slot out e = asked-writes call s slots (askedBy s) slot out e
-decided-writes (Peer call) s slots slot out e = kept-not-written e
+decided-writes denied (Client call) s slots slot out e = asked-writes denied call s slots (askedBy s) slot out e
+decided-writes denied (Peer call) s slots slot out e = kept-not-written e

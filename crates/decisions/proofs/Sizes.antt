@@ -70,13 +70,13 @@ module _ (call : ClientCall) (s : List ℕ) where
   unfolding refresh
   refresh-fits own slot = respond-fits _ _ s _ _ (refresh-small (transactionId s) _)
 
-  pub create-permission-fits : (own : Bool) (slot : Slot) → Fits s (outOf (createPermission call s own slot))
+  pub create-permission-fits : (denied own : Bool) (slot : Slot) → Fits s (outOf (createPermission call s denied own slot))
   unfolding createPermission
-  create-permission-fits own slot = respond-fits _ _ s _ _ (bare-small (transactionId s) CreatePermission)
+  create-permission-fits denied own slot = respond-fits _ _ s _ _ (bare-small (transactionId s) CreatePermission)
 
-  pub channel-bind-fits : (own : Bool) (slot : Slot) → Fits s (outOf (channelBind call s own slot))
+  pub channel-bind-fits : (denied own : Bool) (slot : Slot) → Fits s (outOf (channelBind call s denied own slot))
   unfolding channelBind
-  channel-bind-fits own slot = respond-fits _ _ s _ _ (bare-small (transactionId s) ChannelBind)
+  channel-bind-fits denied own slot = respond-fits _ _ s _ _ (bare-small (transactionId s) ChannelBind)
 
   -- the value of DATA lies in the message
   pub send-fits : (own : Bool) (slot : Slot) → Fits s (send call s own slot)

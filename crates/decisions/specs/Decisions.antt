@@ -1,6 +1,6 @@
 -- What is decided of a call that is not refused: the slot that it is about, and what becomes of it.
 use Prim.Native.Nat.{ℕ, zero, suc, _+_}
-use mathlib.Core.Bool.{Bool}
+use mathlib.Core.Bool.{Bool, false}
 use mathlib.Core.List.{List, [], _∷_}
 use Rattle.slot.specs.declared.Slot.{Slot}
 use Rattle.slot.specs.declared.Found.{Found}
@@ -15,6 +15,7 @@ use Rattle.allocation_rules.specs.declared.Room.{Room}
 use Rattle.rules.specs.Change.{Change, keep, dropped}
 use Rattle.allocation_rules.specs.Allocations.{allocate, refresh, portFor}
 use Rattle.permission_rules.specs.Permissions.{createPermission, channelBind}
+use Rattle.permission_rules.specs.Denials.{anyDenied, firstDenied}
 use Rattle.data_rules.specs.Data.{send, sendChannelData, relayFromPeer}
 use Rattle.decisions.specs.Client.{askedBy}
 use Rattle.interface.specs.declared.incoming.Call.{Call}
@@ -49,6 +50,22 @@ roomFor call slots = record {
   port = portFor (portsHeld (call .time) slots 0 128) (call .start);
 }
 
+-- ---- What is asked of the denied prefixes
+
+-- request 2: whether a request names a denied peer. No other datagram is looked at
+abbrev pub asksDenied : (nodes s : List ℕ) → Asked → Bool
+asksDenied nodes s Asked.Allocate = false
+asksDenied nodes s Asked.Refresh = false
+asksDenied nodes s Asked.CreatePermission = anyDenied nodes s
+asksDenied nodes s Asked.ChannelBind = firstDenied nodes s
+asksDenied nodes s Asked.Send = false
+asksDenied nodes s Asked.ChannelData = false
+asksDenied nodes s Asked.Nothing = false
+
+abbrev pub namesDenied : (nodes : List ℕ) → Call → List ℕ → Bool
+namesDenied nodes (Client call) s = asksDenied nodes s (askedBy s)
+namesDenied nodes (Peer call) s = false
+
 -- ---- What is decided: the slot that a call is about, and what becomes of it
 
 pub record Decision : Type 0 where
@@ -64,19 +81,19 @@ abbrev pub aboutOwn : FromClient → List Slot → (Bool → Slot → Change) �
 aboutOwn call slots rule = aboutFound slots (ownPlace call slots) rule
 
 -- Allocate writes 'the lowest such slot' that isn't live, and answers a repeat from the caller's own; everything else is about the caller's own
-abbrev pub onAsked : FromClient → List ℕ → List Slot → Asked → Decision
-onAsked call s slots Asked.Allocate =
+abbrev pub onAsked : (denied : Bool) → FromClient → List ℕ → List Slot → Asked → Decision
+onAsked denied call s slots Asked.Allocate =
     record { place = find (inSlot (lapsed (call .time))) slots; change = allocate (asRules call) s (roomFor call slots) (slotIn slots (ownPlace call slots)) }
-onAsked call s slots Asked.Refresh = aboutOwn call slots (refresh (asRules call) s)
-onAsked call s slots Asked.CreatePermission = aboutOwn call slots (createPermission (asRules call) s)
-onAsked call s slots Asked.ChannelBind = aboutOwn call slots (channelBind (asRules call) s)
-onAsked call s slots Asked.Send = aboutOwn call slots (λ own slot. keep (send (asRules call) s own slot))
-onAsked call s slots Asked.ChannelData = aboutOwn call slots (λ own slot. keep (sendChannelData (asRules call) s own slot))
-onAsked call s slots Asked.Nothing = record { place = Nothing; change = keep dropped }
+onAsked denied call s slots Asked.Refresh = aboutOwn call slots (refresh (asRules call) s)
+onAsked denied call s slots Asked.CreatePermission = aboutOwn call slots (createPermission (asRules call) s denied)
+onAsked denied call s slots Asked.ChannelBind = aboutOwn call slots (channelBind (asRules call) s denied)
+onAsked denied call s slots Asked.Send = aboutOwn call slots (λ own slot. keep (send (asRules call) s own slot))
+onAsked denied call s slots Asked.ChannelData = aboutOwn call slots (λ own slot. keep (sendChannelData (asRules call) s own slot))
+onAsked denied call s slots Asked.Nothing = record { place = Nothing; change = keep dropped }
 
--- a client's datagram by what it asks; a peer's is about the live slot with the relay port
-unfoldable pub decided : Call → List ℕ → List Slot → Decision
-decided (Client call) s slots = onAsked call s slots (askedBy s)
-decided (Peer call) s slots =
+-- a client's datagram by what it asks, and by whether it names a denied peer; a peer's is about the live slot with the relay port
+unfoldable pub decided : (denied : Bool) → Call → List ℕ → List Slot → Decision
+decided denied (Client call) s slots = onAsked denied call s slots (askedBy s)
+decided denied (Peer call) s slots =
     aboutFound slots (find (inSlot (holdsPort (call .time) (call .port))) slots)
     (λ own slot. keep (relayFromPeer (call .time) (call .source) (call .id) s own slot))

@@ -25,7 +25,9 @@ use Rattle.interface.specs.declared.incoming.Call.{Call}
 use Rattle.interface.specs.declared.incoming.Call.the-variants.{Client, Peer}
 use Rattle.interface.specs.declared.incoming.FromClient.{FromClient}
 use Rattle.interface.specs.declared.incoming.FromPeer.{FromPeer}
+use Rattle.decisions.specs.declared.Asking.{Asking}
 use Rattle.decisions.specs.declared.Seen.{Seen}
+use Rattle.decisions.specs.Decisions.{namesDenied}
 
 -- ---- What a call that is not refused has: the rules ask for it
 pub record ReadyClient (call : FromClient) (datagram reply : List ℕ) : Type 0 where
@@ -76,8 +78,14 @@ abbrev pub wantedBy : Call → Asked → Wanted
 wantedBy (Client call) asked = record { time = call .time; key = Key.Client (call .«five_tuple»); room = allocates asked; user = call .user }
 wantedBy (Peer call) asked = record { time = call .time; key = Key.Port (call .port); room = false; user = 0 }
 
-abbrev pub saw : Asked → Survey → Seen
-saw asked survey = record { asked = asked; survey = survey }
+abbrev pub asking : Asked → Bool → Asking
+asking asked denied = record { asked = asked; denied = denied }
+
+abbrev pub askingOf : (nodes : List ℕ) → Call → List ℕ → Asking
+askingOf nodes call s = asking (askedFor call s) (namesDenied nodes call s)
+
+abbrev pub saw : Asking → Survey → Seen
+saw asking survey = record { asked = asking .asked; denied = asking .denied; survey = survey }
 
 -- the slot that is written
 abbrev pub placeFor : Asked → Survey → Found

@@ -11,6 +11,8 @@ use interface::incoming::Call;
 use interface::incoming::FromClient;
 use interface::incoming::FromPeer;
 use permission_rules::channels::channel_bind;
+use permission_rules::denials::any_denied;
+use permission_rules::denials::first_denied;
 use permission_rules::permissions::create_permission;
 use rules::answer::Answer;
 use rules::answer::Outcome;
@@ -23,7 +25,7 @@ use table::keys::Wanted;
 use table::surveys::Survey;
 use table::surveys::place_of;
 ghost use mathlib.Core.Path.{_≡_};
-ghost use mathlib.Core.Bool.{true, false, not};
+ghost use mathlib.Core.Bool.{Bool, true, false, not};
 ghost use mathlib.Core.List.{List};
 ghost use Prim.Native.Nat.{ℕ, _≤_};
 ghost use lib.ListN.{length};
@@ -34,19 +36,10 @@ ghost use Rattle.interface.specs.declared.incoming.Call.the-variants.{Client, P
 ghost use Rattle.rules.specs.declared.answer.Outcome.the-variants.{Dropped};
 ghost use Rattle.decisions.specs.declared.client.Asked.the-variants as AskedIs;
 ghost use Rattle.decisions.specs.Client.{askedBy};
-ghost use Rattle.decisions.specs.Decisions.{asRules, onAsked, decided};
-ghost use Rattle.decisions.specs.Inner.{ReadyClient, ReadyPeer, Ready, UserFits, askedFor, allocates, isData, wantedBy, saw, placeIn, unwritten, Answering};
+ghost use Rattle.decisions.specs.Decisions.{asRules, asksDenied, onAsked, decided};
+ghost use Rattle.decisions.specs.Inner.{ReadyClient, ReadyPeer, Ready, UserFits, askedFor, askingOf, allocates, isData, wantedBy, saw, placeIn, unwritten, Answering};
 
 pub mod client;
-
-pub fn asked_for(datagram: &[u8], call: Call) -> Asked
-    ensures { λ r. ⌜ r ≡ askedFor call (now (datagram .entry)) ⌝ }
-{
-    match call {
-        Call::Client(_) => asked_by(datagram),
-        Call::Peer(_) => Asked::Nothing,
-    }
-}
 
 fn allocates(asked: Asked) -> bool
     ensures { λ r. ⌜ r ≡ allocates asked ⌝ }
@@ -62,11 +55,52 @@ fn allocates(asked: Asked) -> bool
     }
 }
 
-// What the look over the slots is for.
-pub fn wanted_by(call: Call, asked: Asked) -> Wanted
-    requires { ⌜ UserFits call ⌝ }
-    ensures { λ r. ⌜ r ≡ wantedBy call asked ⌝ }
+// Whether a request names a denied peer. No other datagram is looked at.
+fn asks_denied(nodes: &[u16; 1536], datagram: &[u8], asked: Asked) -> bool
+    requires { ⌜ asked ≡ askedBy (now datagram) ⌝ }
+    ensures { λ r. ⌜ r ≡ asksDenied (now (nodes .entry)) (now (datagram .entry)) asked ⌝ }
 {
+    match asked {
+        Asked::Allocate => false,
+        Asked::Refresh => false,
+        Asked::CreatePermission => any_denied(nodes, datagram),
+        Asked::ChannelBind => first_denied(nodes, datagram),
+        Asked::Send => false,
+        Asked::ChannelData => false,
+        Asked::Nothing => false,
+    }
+}
+
+// What a call asks, and whether it names a denied peer.
+pub struct Asking {
+    pub asked: Asked,
+    pub denied: bool,
+}
+
+pub fn asking_of(nodes: &[u16; 1536], datagram: &[u8], call: Call) -> Asking
+    ensures { λ r. ⌜ r ≡ askingOf (now (nodes .entry)) call (now (datagram .entry)) ⌝ }
+{
+    match call {
+        Call::Client(_) => {
+            let asked = asked_by(datagram);
+            Asking {
+                asked,
+                denied: asks_denied(nodes, datagram, asked),
+            }
+        }
+        Call::Peer(_) => Asking {
+            asked: Asked::Nothing,
+            denied: false,
+        },
+    }
+}
+
+// What the look over the slots is for.
+pub fn wanted_by(call: Call, asking: Asking) -> Wanted
+    requires { ⌜ UserFits call ⌝ }
+    ensures { λ r. ⌜ r ≡ wantedBy call (asking .asked) ⌝ }
+{
+    let asked = asking.asked;
     match call {
         Call::Client(c) => {
             let five_tuple = c.five_tuple;
@@ -93,13 +127,19 @@ pub fn wanted_by(call: Call, asked: Asked) -> Wanted
 // What a call asks, and what the look over the slots learned for it.
 pub struct Seen {
     pub asked: Asked,
+    pub denied: bool,
     pub survey: Survey,
 }
 
-pub fn with_survey(asked: Asked, survey: Survey) -> Seen
-    ensures { λ r. ⌜ r ≡ saw asked survey ⌝ }
+pub fn with_survey(asking: Asking, survey: Survey) -> Seen
+    ensures { λ r. ⌜ r ≡ saw asking survey ⌝ }
 {
-    Seen { asked, survey }
+    let asked = asking.asked;
+    Seen {
+        asked,
+        denied: asking.denied,
+        survey,
+    }
 }
 
 // Whether no slot was found.
@@ -159,7 +199,7 @@ fn answer_allocate(
     own: Slot,
 ) -> Answer
     requires { ⌜ ReadyClient call (now datagram) (now reply) × (20 ≤ length (now datagram)) ⌝ }
-    ensures { λ r. ⌜ Answering (Client call) AskedIs.Allocate (λ slots. onAsked call (now (datagram .entry)) slots AskedIs.Allocate .change) survey own (now (reply .entry)) (now (reply .exit)) r ⌝ }
+    ensures { λ r. ⌜ Answering (Client call) AskedIs.Allocate (λ slots. onAsked false call (now (datagram .entry)) slots AskedIs.Allocate .change) survey own (now (reply .entry)) (now (reply .exit)) r ⌝ }
 {
     let found = survey.own;
     let free = survey.free;
@@ -193,7 +233,7 @@ fn pass_client(
     own: Slot,
 ) -> Outcome
     requires { ⌜ (call .user ≤ 32) × (asked ≡ askedBy (now datagram)) ⌝ }
-    ensures { λ r. ⌜ (isData asked ≡ true → ((reply : List ℕ) → Answering (Client call) asked (λ slots. onAsked call (now (datagram .entry)) slots asked .change) survey own reply reply (unwritten r own))) ⌝ }
+    ensures { λ r. ⌜ (isData asked ≡ true → ((denied : Bool) (reply : List ℕ) → Answering (Client call) asked (λ slots. onAsked denied call (now (datagram .entry)) slots asked .change) survey own reply reply (unwritten r own))) ⌝ }
 {
     let found = survey.own;
     match asked {
@@ -216,7 +256,7 @@ fn pass_peer(
     own: Slot,
 ) -> Outcome
     requires { ⌜ ReadyPeer call (now datagram) (now reply) ⌝ }
-    ensures { λ r. ⌜ Answering (Peer call) AskedIs.Nothing (λ slots. decided (Peer call) (now (datagram .entry)) slots .change) survey own (now (reply .entry)) (now (reply .exit)) (unwritten r own) ⌝ }
+    ensures { λ r. ⌜ Answering (Peer call) AskedIs.Nothing (λ slots. decided false (Peer call) (now (datagram .entry)) slots .change) survey own (now (reply .entry)) (now (reply .exit)) (unwritten r own) ⌝ }
 {
     let found = survey.own;
     relay_from_peer(
@@ -249,7 +289,7 @@ pub fn is_data(seen: Seen) -> bool
 // What data does: a slot is neither written nor passed on.
 pub fn pass_data(datagram: &[u8], reply: &mut [u8], call: Call, seen: Seen, own: Slot) -> Outcome
     requires { ⌜ (Ready call (now datagram) (now reply) × (seen .asked ≡ askedFor call (now datagram))) × (isData (seen .asked) ≡ true) ⌝ }
-    ensures { λ r. ⌜ Answering call (seen .asked) (λ slots. decided call (now (datagram .entry)) slots .change) (seen .survey) own (now (reply .entry)) (now (reply .exit)) (unwritten r own) ⌝ }
+    ensures { λ r. ⌜ Answering call (seen .asked) (λ slots. decided (seen .denied) call (now (datagram .entry)) slots .change) (seen .survey) own (now (reply .entry)) (now (reply .exit)) (unwritten r own) ⌝ }
 {
     let asked = seen.asked;
     let survey = seen.survey;
@@ -265,20 +305,23 @@ fn answer_client(
     reply: &mut [u8],
     call: FromClient,
     asked: Asked,
+    denied: bool,
     survey: Survey,
     own: Slot,
 ) -> Answer
     requires { ⌜ (ReadyClient call (now datagram) (now reply) × (asked ≡ askedBy (now datagram))) × (isData asked ≡ true → has (survey .own) ≡ false) ⌝ }
-    ensures { λ r. ⌜ Answering (Client call) asked (λ slots. onAsked call (now (datagram .entry)) slots asked .change) survey own (now (reply .entry)) (now (reply .exit)) r ⌝ }
+    ensures { λ r. ⌜ Answering (Client call) asked (λ slots. onAsked denied call (now (datagram .entry)) slots asked .change) survey own (now (reply .entry)) (now (reply .exit)) r ⌝ }
 {
     let found = survey.own;
     match asked {
         Asked::Allocate => answer_allocate(datagram, reply, call, survey, own),
         Asked::Refresh => refresh(datagram, reply, client_call(call), has(found), own),
         Asked::CreatePermission => {
-            create_permission(datagram, reply, client_call(call), has(found), own)
+            create_permission(datagram, reply, client_call(call), denied, has(found), own)
         }
-        Asked::ChannelBind => channel_bind(datagram, reply, client_call(call), has(found), own),
+        Asked::ChannelBind => {
+            channel_bind(datagram, reply, client_call(call), denied, has(found), own)
+        }
         Asked::Send => answer_dropped(own),
         Asked::ChannelData => answer_dropped(own),
         Asked::Nothing => answer_dropped(own),
@@ -288,12 +331,12 @@ fn answer_client(
 // What a call does that is not refused: a request, or data for which no slot was found.
 pub fn answer_call(datagram: &[u8], reply: &mut [u8], call: Call, seen: Seen, own: Slot) -> Answer
     requires { ⌜ (Ready call (now datagram) (now reply) × (seen .asked ≡ askedFor call (now datagram))) × (isData (seen .asked) ≡ true → has (seen .survey .own) ≡ false) ⌝ }
-    ensures { λ r. ⌜ Answering call (seen .asked) (λ slots. decided call (now (datagram .entry)) slots .change) (seen .survey) own (now (reply .entry)) (now (reply .exit)) r ⌝ }
+    ensures { λ r. ⌜ Answering call (seen .asked) (λ slots. decided (seen .denied) call (now (datagram .entry)) slots .change) (seen .survey) own (now (reply .entry)) (now (reply .exit)) r ⌝ }
 {
     let asked = seen.asked;
     let survey = seen.survey;
     match call {
-        Call::Client(c) => answer_client(datagram, reply, c, asked, survey, own),
+        Call::Client(c) => answer_client(datagram, reply, c, asked, seen.denied, survey, own),
         Call::Peer(_) => answer_dropped(own),
     }
 }
@@ -301,7 +344,7 @@ pub fn answer_call(datagram: &[u8], reply: &mut [u8], call: Call, seen: Seen, ow
 // The same where no slot was found.
 pub fn answer_unfound(datagram: &[u8], reply: &mut [u8], call: Call, seen: Seen) -> Answer
     requires { ⌜ (Ready call (now datagram) (now reply) × (seen .asked ≡ askedFor call (now datagram))) × (has (seen .survey .own) ≡ false) ⌝ }
-    ensures { λ r. ⌜ Answering call (seen .asked) (λ slots. decided call (now (datagram .entry)) slots .change) (seen .survey) freshSlot (now (reply .entry)) (now (reply .exit)) r ⌝ }
+    ensures { λ r. ⌜ Answering call (seen .asked) (λ slots. decided (seen .denied) call (now (datagram .entry)) slots .change) (seen .survey) freshSlot (now (reply .entry)) (now (reply .exit)) r ⌝ }
 {
     answer_call(datagram, reply, call, seen, fresh_slot())
 }

@@ -9,6 +9,8 @@
 //     A place, user, client address, port, relay port, expiry    an allocation put into the table; from place 64 on, in all
 //     E place, entry, address, expiry                            a permission put into a slot; from entry 8 on, in all
 //     C place, entry, number, address, port, expiry              a channel
+//     D name, bytes  /  I name, address                          a text of denied prefixes; whether the address is denied
+//     G place, number                                            a number put into the tree of denied prefixes; from place 1536 on, in all
 //     L name, length                                             the listing, in an output of that length
 //     R name, number  /  S name, length  /  F name, start, length    what a made-up outcome sends
 //     M name, bytes, length                                      what the clients' reader says (0: of the bytes alone)
@@ -17,6 +19,7 @@
 // A call's answer is `R` and the number of a refusal, `D` a drop, `S` what goes to a client, with what the clients' reader says of it, or
 // `F` what goes to a peer; then the clock after the call.
 mod calling;
+mod denials;
 mod fields;
 mod lent;
 mod listings;
@@ -37,7 +40,7 @@ struct State {
     setting: Setting,
 }
 
-// `Q` and `P` make a call; the other letters make a table.
+// `Q` and `P` make a call, `D` reads a text; the other letters make a table.
 fn changed(held: Held, setting: Setting, line: &[u8]) -> Held {
     let letter = fields::letter(line);
     if letter == b'Q' {
@@ -45,6 +48,9 @@ fn changed(held: Held, setting: Setting, line: &[u8]) -> Held {
     }
     if letter == b'P' {
         return calling::from_peer(held, setting, line);
+    }
+    if letter == b'D' {
+        return denials::read(held, line);
     }
     tables::made(held, letter, line)
 }
@@ -54,6 +60,10 @@ fn show(held: Held, slots: usize, line: &[u8]) {
     let letter = fields::letter(line);
     if letter == b'L' {
         listings::show(held, slots, line);
+        return;
+    }
+    if letter == b'I' {
+        denials::ask(held, line);
         return;
     }
     showing::show(letter, line);
@@ -103,7 +113,7 @@ fn run(text: &[u8]) {
 }
 
 fn main() {
-    let mut text = io::large_buffer();
+    let mut text = [0u8; 131072];
     let n = io::read_full(STDIN_FILENO, &mut text);
     run(&text[0..n]);
 }

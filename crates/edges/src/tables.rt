@@ -1,4 +1,5 @@
 // Tables that are made up.
+use crate::denials::with_number;
 use crate::fields::address;
 use crate::fields::number;
 use crate::fields::number_u8;
@@ -36,7 +37,9 @@ pub(crate) fn empty() -> Held {
 // The table with another clock.
 fn at_clock(held: Held, clock: u64) -> Held {
     let mut made = held;
-    let bookkeeping = Bookkeeping { clock };
+    let kept = held.bookkeeping;
+    let denied = kept.denied;
+    let bookkeeping = Bookkeeping { clock, denied };
     made.bookkeeping = bookkeeping;
     made
 }
@@ -123,7 +126,8 @@ fn channel(held: Held, line: &[u8]) -> Held {
     with(held, place, with_channels(slot, channels))
 }
 
-// The table that a line makes: `N` an empty one, `T` with that clock, `A`, `E` and `C` with an allocation, a permission, a channel.
+// The table that a line makes: `N` an empty one, `T` with that clock, `A`, `E` and `C` with an allocation, a permission, a channel, `G` with a
+// number in the tree of denied prefixes.
 pub(crate) fn made(held: Held, letter: u8, line: &[u8]) -> Held {
     match letter {
         b'N' => empty(),
@@ -131,6 +135,7 @@ pub(crate) fn made(held: Held, letter: u8, line: &[u8]) -> Held {
         b'A' => allocation(held, line),
         b'E' => permission(held, line),
         b'C' => channel(held, line),
+        b'G' => with_number(held, line),
         _ => held,
     }
 }

@@ -84,16 +84,18 @@ module _ (s : List ℕ) where
     unfolding refreshCode
     refresh-coded has slot = owner has slot _ (step _ 400 _ refl (step _ 400 _ refl (step _ 443 _ refl none)))
 
-    pub permission-coded : (has : Bool) (slot : Slot) → Coded s (createPermissionCode call s has slot)
+    pub permission-coded : (denied has : Bool) (slot : Slot) → Coded s (createPermissionCode call s denied has slot)
     unfolding createPermissionCode
-    permission-coded has slot = owner has slot _ (step _ 400 _ refl (step _ 400 _ refl (step _ 443 _ refl (step _ 508 _ refl none))))
+    permission-coded denied has slot =
+        owner has slot _ (step _ 400 _ refl (step _ 400 _ refl (step _ 443 _ refl (step _ 403 _ refl (step _ 508 _ refl none)))))
 
-    pub channel-coded : (has : Bool) (slot : Slot) → Coded s (channelBindCode call s has slot)
+    pub channel-coded : (denied has : Bool) (slot : Slot) → Coded s (channelBindCode call s denied has slot)
     unfolding channelBindCode
-    channel-coded has slot =
+    channel-coded denied has slot =
         owner has slot _
         (step _ 400 _ refl
-        (step _ 400 _ refl (step _ 400 _ refl (step _ 443 _ refl (step _ 400 _ refl (step _ 400 _ refl (step _ 508 _ refl (step _ 508 _ refl none))))))))
+        (step _ 400 _ refl
+        (step _ 400 _ refl (step _ 443 _ refl (step _ 403 _ refl (step _ 400 _ refl (step _ 400 _ refl (step _ 508 _ refl (step _ 508 _ refl none)))))))))
 
 -- ---- Types: unknown ones are below 0x8000
 abbrev allKnown : List (ℕ × AttributeKind) → Bool

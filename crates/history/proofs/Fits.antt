@@ -1,12 +1,12 @@
 -- Every call leaves a state whose numbers are of their types.
-use Prim.Native.Nat.{ℕ, zero, suc, _+_, _<_, _≤_, _^_}
+use Prim.Native.Nat.{ℕ, _<_, _≤_, _^_}
 use mathlib.Core.Path.{_≡_, refl, _∙_}
 use mathlib.Core.Bool.{Bool, true, false}
 use mathlib.Core.List.{List, [], _∷_}
 use native.Mathlib.Omega.{arith}
 use lib.Dec.{eqb, lit<}
-use lib.ListN.{length, getD, set, length-set}
-use borrow.Author.Tests.{eqb-true, leb-true}
+use lib.ListN.{length, length-set}
+use borrow.Author.Tests.{leb-true}
 use Rattle.choice.specs.Choice.{pick}
 use Rattle.choice.proofs.Laws.{both-parts}
 use Rattle.address.specs.declared.Address.{Address}
@@ -19,16 +19,15 @@ use Rattle.stun.specs.Values.{transactionId, addressAt, peersOf, peersFrom, pee
 use Rattle.slot.specs.declared.Slot.{Slot}
 use Rattle.slot.specs.declared.Found.{Found}
 use Rattle.slot.specs.declared.Found.the-variants.{At, Nothing}
-use Rattle.slot.specs.declared.Placed.{Placed}
 use Rattle.slot.specs.Search.{putAt, atOr}
 use Rattle.slot.specs.Slot.{freshPermission, freshChannel, freshSlot, isChannelNumber, permissionEntry, permit, channelEntry, bind}
 use Rattle.table.specs.Table.{slotAt}
 use Rattle.decisions.specs.declared.client.Asked.{Asked}
 use Rattle.decisions.specs.declared.client.Asked.the-variants as Asked
-use Rattle.rules.specs.Change.{Out, Change, keep, write}
+use Rattle.rules.specs.Change.{Change, keep, write}
 use Rattle.rules.specs.Values.{lifetime}
-use Rattle.allocation_rules.specs.Allocations.{allocated, renewed, refreshed}
-use Rattle.permission_rules.specs.Permissions.{permitPeer, permitAll, bound}
+use Rattle.allocation_rules.specs.Allocations.{allocated, renewed}
+use Rattle.permission_rules.specs.Permissions.{bound}
 use Rattle.decisions.specs.Client.{askedBy}
 use Rattle.rules.proofs.Laws.{kept-not-written}
 use Rattle.decisions.proofs.Accepted.{allocates, refreshes, permits, binds, granted-range}
@@ -39,32 +38,19 @@ use Rattle.interface.specs.declared.incoming.FromClient.{FromClient}
 use Rattle.state.specs.State.{State, empty, clockOf, atTime}
 use Rattle.state.specs.Outcomes.{refuse, stateAfter}
 use Rattle.interface.specs.Refusals.{timeOf, lengths, refusal}
-use Rattle.decisions.specs.Decisions.{asRules, roomFor, onAsked, decided}
-use Rattle.state.specs.Step.{done, accepted, act}
+use Rattle.decisions.specs.Decisions.{asRules, roomFor, namesDenied, onAsked, decided}
+use Rattle.state.specs.Step.{done, decision, accepted, act}
 use Rattle.decisions.specs.Inner.{Ready}
-use Rattle.relay.proofs.Laws.{not-refused}
 use Rattle.client_reader.specs.Fields.{Bytes, AddressFits}
 use Rattle.client_reader.proofs.Ranges.{address-fits}
-use Rattle.history.specs.Events.{TransportFits, CallFits, Arrival, next, Event, Lived}
+use Rattle.history.specs.Events.{TransportFits, CallFits, Arrival, met, next, Event, Lived}
 use Rattle.history.specs.Fits.{PermissionFits, ChannelFits, SlotFits, StateFits}
 use Rattle.history.proofs.Entries.{all-fresh}
+use Rattle.history.proofs.Slots.{place-keeps, found-keeps, MayPermit, permits-keep, refreshed-keeps, Writes, next-keeps}
 use Rattle.history.proofs.FreePort.{port-fits}
 use Rattle.history.proofs.Replies.{id-fits}
 
 -- ---- An entry written into a list
-module _ {A : Type 0} (P : A → Type 0) (d x : A) (h : P x) where
-  set-keeps : (l : List A) (k : ℕ) → ((i : ℕ) → P (getD l i d)) → (i : ℕ) → P (getD (set l k x) i d)
-  set-keeps [] k f i = f i
-  set-keeps (y ∷ l) zero f zero = h
-  set-keeps (y ∷ l) zero f (suc i) = f (suc i)
-  set-keeps (y ∷ l) (suc k) f zero = f zero
-  set-keeps (y ∷ l) (suc k) f (suc i) = set-keeps l k (λ j. f (suc j)) i
-
-  place-keeps : (found : Found) (l : List A) → ((i : ℕ) → P (getD l i d)) → (i : ℕ) → P (getD (putAt found x l) i d)
-  unfolding putAt
-  place-keeps (At k) l f = set-keeps l k f
-  place-keeps Nothing l f = f
-
 length-place : {A : Type 0} (found : Found) (x : A) (l : List A) → length (putAt found x l) ≡ length l
 unfolding putAt
 length-place (At k) x l = length-set l k x
@@ -83,9 +69,7 @@ fresh-fits = record {
 }
 
 pub found-fits : (found : Found) (l : List Slot) → ((i : ℕ) → SlotFits (slotAt l i)) → SlotFits (atOr freshSlot found l)
-unfolding atOr
-found-fits (At k) l f = f k
-found-fits Nothing l f = fresh-fits
+found-fits = found-keeps SlotFits fresh-fits
 
 -- ---- The addresses that a datagram carries
 module _ (s : List ℕ) (bytes : Bytes s) where
@@ -140,41 +124,24 @@ module _ (t : ℕ) (soon : t ≤ 2 ^ 40) where
         place-keeps ChannelFits freshChannel _ (record { number = n; peer = h; expiry = omega arith }) (channelEntry t number (slot .channels)) (slot .channels) (f .channels);
   }
 
-  all-fit : (s : List ℕ) (bytes : Bytes s) (l : List AddressValue) (was slot : Slot) → AllFit s bytes l → SlotFits was → SlotFits slot
-      → SlotFits (permitAll t l was slot .slot)
-  unfolding permitAll permitPeer
-  all-fit s bytes [] was slot a w f = f
-  all-fit s bytes (v ∷ l) was slot a w f =
-      go (permit t (v .peer .address) slot .ok) (all-fit s bytes l was (permit t (v .peer .address) slot .slot) (a .1) w (permit-fits (v .peer .address) slot (a .0 .0) f))
-    where
-      one : Placed
-      one = permit t (v .peer .address) slot
+  peers-permitted : (s : List ℕ) (bytes : Bytes s) (l : List AddressValue) → AllFit s bytes l → MayPermit SlotFits t l
+  peers-permitted s bytes [] f = tt
+  peers-permitted s bytes (v ∷ l) f = (λ slot. permit-fits (v .peer .address) slot (f .0 .0), peers-permitted s bytes l (f .1))
 
-      go : (b : Bool) → SlotFits (permitAll t l was (one .slot) .slot) → SlotFits (pick b (permitAll t l was (one .slot)) (record { ok = false; slot = was }) .slot)
-      go true f = f
-      go false f = w
+  renewed-fits : (expiry : ℕ) → expiry < 2 ^ 64 → (slot : Slot) → SlotFits slot → SlotFits (renewed expiry slot)
+  unfolding renewed
+  renewed-fits expiry h slot f =
+      let a = f .allocation in
+      record {
+        allocation = record { user = a .user; client = a .client; server = a .server; protocol = a .protocol; port = a .port; expiry = h };
+        transaction-id = f .transaction-id;
+        eight-permissions = f .eight-permissions;
+        permissions = f .permissions;
+        eight-channels = f .eight-channels;
+        channels = f .channels;
+      }
 
-  refreshed-fits : (seconds : ℕ) → seconds ≤ 3600 → (slot : Slot) → SlotFits slot → SlotFits (refreshed t seconds slot)
-  unfolding refreshed renewed
-  refreshed-fits seconds few slot f = go (eqb seconds 0)
-    where
-      go : (b : Bool) → SlotFits (pick b freshSlot (renewed (t + seconds) slot))
-      go true = fresh-fits
-      go false =
-          let a = f .allocation in
-          record {
-            allocation = record { user = a .user; client = a .client; server = a .server; protocol = a .protocol; port = a .port; expiry = omega arith };
-            transaction-id = f .transaction-id;
-            eight-permissions = f .eight-permissions;
-            permissions = f .permissions;
-            eight-channels = f .eight-channels;
-            channels = f .channels;
-          }
-
-abbrev WritesFit : Change → Type 0
-WritesFit change = (slot : Slot) (out : Out) → change ≡ write slot out → SlotFits slot
-
-module _ (call : FromClient) (s : List ℕ) (l : List Slot) (fits : CallFits (Client call)) (bytes : Bytes s) (soon : call .time ≤ 2 ^ 40) (user : call .user ≤ 32)
+module _ (denied : Bool) (call : FromClient) (s : List ℕ) (l : List Slot) (fits : CallFits (Client call)) (bytes : Bytes s) (soon : call .time ≤ 2 ^ 40) (user : call .user ≤ 32)
     (were : (i : ℕ) → SlotFits (slotAt l i)) where
   allocated-fits : (port seconds : ℕ) → port < 2 ^ 16 → seconds ≤ 3600 → SlotFits (allocated (asRules call) (transactionId s) port seconds)
   unfolding allocated
@@ -191,16 +158,17 @@ module _ (call : FromClient) (s : List ℕ) (l : List Slot) (fits : CallFits (Cl
   unfolding isChannelNumber
   number-fits number e = let h = leb-true number 0x4fff (both-parts _ _ e .1) in omega arith
 
-  asked-fits : (asked : Asked) → WritesFit (onAsked call s l asked .change)
+  asked-fits : (asked : Asked) → Writes SlotFits (onAsked denied call s l asked .change)
   unfolding bound
   asked-fits Asked.Allocate slot out e =
       rw (allocates (asRules call) s slot out (roomFor call l) _ e .slot-is) (allocated-fits _ _ (port-fits _ _) (granted-range (lifetime s) .1))
   asked-fits Asked.Refresh slot out e =
       rw (refreshes (asRules call) s slot out _ _ e .slot-is)
-      (refreshed-fits (call .time) soon _ (granted-refresh-small (lifetime s)) _ (found-fits _ l were))
+      (let few = granted-refresh-small (lifetime s) in
+      refreshed-keeps SlotFits (call .time) _ _ fresh-fits (renewed-fits (call .time) soon _ (omega arith) _ (found-fits _ l were)))
   asked-fits Asked.CreatePermission slot out e =
       rw (permits (asRules call) s slot out _ _ e .slot-is)
-      (all-fit (call .time) soon s bytes (peers s) _ _ (peers-fit s bytes) (found-fits _ l were) (found-fits _ l were))
+      (permits-keep SlotFits (call .time) (peers s) _ _ (peers-permitted (call .time) soon s bytes (peers s) (peers-fit s bytes)) (found-fits _ l were) (found-fits _ l were))
   asked-fits Asked.ChannelBind slot out e =
       let b = binds (asRules call) s slot out _ _ e in
       let peer = first-fits s bytes in
@@ -210,40 +178,54 @@ module _ (call : FromClient) (s : List ℕ) (l : List Slot) (fits : CallFits (Cl
   asked-fits Asked.ChannelData slot out e = kept-not-written e
   asked-fits Asked.Nothing slot out e = kept-not-written e
 
-decided-fits : (call : Call) (s : List ℕ) (l : List Slot) (reply : List ℕ) → CallFits call → Bytes s → Ready call s reply → ((i : ℕ) → SlotFits (slotAt l i))
-    → WritesFit (decided call s l .change)
+decided-fits : (denied : Bool) (call : Call) (s : List ℕ) (l : List Slot) (reply : List ℕ) → CallFits call → Bytes s → Ready call s reply → ((i : ℕ) → SlotFits (slotAt l i))
+    → Writes SlotFits (decided denied call s l .change)
 unfolding decided
-decided-fits (Client call) s l reply fits bytes ready were = asked-fits call s l fits bytes (ready .soon) (ready .user) were (askedBy s)
-decided-fits (Peer call) s l reply fits bytes ready were = λ slot out e. kept-not-written e
+decided-fits denied (Client call) s l reply fits bytes ready were = asked-fits denied call s l fits bytes (ready .soon) (ready .user) were (askedBy s)
+decided-fits denied (Peer call) s l reply fits bytes ready were = λ slot out e. kept-not-written e
 
 -- ---- One call
-done-fits : (was st : State) (found : Found) (change : Change) → StateFits st → WritesFit change → StateFits (stateAfter was (done st found change))
-done-fits was st (At k) (keep out) f w = f
-done-fits was st (At k) (write slot out) f w = record {
-  clock = f .clock;
-  sixty-four = length-set (st .slots) k slot ∙ f .sixty-four;
-  slots = set-keeps SlotFits freshSlot slot (w slot out refl) (st .slots) k (f .slots);
-}
-done-fits was st Nothing change f w = f
-
 time-fits : (call : Call) → CallFits call → timeOf call < 2 ^ 64
 time-fits (Client call) fits = fits .4
 time-fits (Peer call) fits = fits .3
 
-pub next-fits : (st : State) (a : Arrival) → StateFits st → StateFits (next st a)
+-- another tree is met
+pub met-fits : (st : State) (a : Arrival) → StateFits st → StateFits (met st a)
+met-fits st a f = record { clock = f .clock; sixty-four = f .sixty-four; slots = f .slots }
+
+-- the clock and the number of slots
+abbrev Sized : State → Type 0
+Sized st = (clockOf st < 2 ^ 64) × (length (st .slots) ≡ 64)
+
+done-sized : (was st : State) (found : Found) (change : Change) → Sized st → Sized (stateAfter was (done st found change))
+done-sized was st (At k) (keep out) f = f
+done-sized was st (At k) (write slot out) f = (f .0, length-set (st .slots) k slot ∙ f .1)
+done-sized was st Nothing change f = f
+
+next-sized : (st : State) (a : Arrival) → Sized st → Sized (next st a)
 unfolding act accepted
-next-fits st a f = go (eqb number 0) refl
+next-sized st a f = go (eqb number 0)
   where
+    there : State
+    there = met st a
+
     number : ℕ
     number = refusal (clockOf st) (lengths (length (st .slots)) (length (a .datagram)) (length (a .reply))) (a .call)
 
-    go : (b : Bool) → eqb number 0 ≡ b → StateFits (stateAfter st (pick b (accepted st (a .call) (a .datagram)) (refuse number)))
-    go true e =
-        let w = not-refused (clockOf st) (st .slots) (a .datagram) (a .reply) (a .call) (eqb-true number 0 e) in
-        done-fits st (atTime (timeOf (a .call)) st) (decided (a .call) (a .datagram) (st .slots) .place) (decided (a .call) (a .datagram) (st .slots) .change)
-        (record { clock = time-fits (a .call) (a .call-fits); sixty-four = f .sixty-four; slots = f .slots })
-        (decided-fits (a .call) (a .datagram) (st .slots) (a .reply) (a .call-fits) (a .bytes) (w .ready) (f .slots))
-    go false e = f
+    go : (b : Bool) → Sized (stateAfter there (pick b (accepted there (a .call) (a .datagram)) (refuse number)))
+    go true =
+        done-sized there (atTime (timeOf (a .call)) there) (decision there (a .call) (a .datagram) .place) (decision there (a .call) (a .datagram) .change)
+        (time-fits (a .call) (a .call-fits), f .1)
+    go false = f
+
+pub next-fits : (st : State) (a : Arrival) → StateFits st → StateFits (next st a)
+next-fits st a f =
+    let sized = next-sized st a (f .clock, f .sixty-four) in
+    record {
+      clock = sized .0;
+      sixty-four = sized .1;
+      slots = next-keeps SlotFits st a (f .slots) (λ w. decided-fits (namesDenied (a .denied) (a .call) (a .datagram)) (a .call) (a .datagram) (st .slots) (a .reply) (a .call-fits) (a .bytes) (w .ready) (f .slots));
+    }
 
 -- ---- Every list of calls
 pub empty-fits : StateFits empty

@@ -10,7 +10,9 @@ pub mod Made
 pub mod Whole
 pub mod Demand
 pub mod Codes
+pub mod Slots
 pub mod Fits
+pub mod Denied
 pub mod ReadBack
 pub mod Own
 pub mod Corollaries

@@ -1,5 +1,5 @@
 -- Lines that the call program runs one after another are a list of calls; so demand 3 holds of them.
-use Prim.Native.Nat.{ℕ, zero, suc, _+_, _<_, _≤_}
+use Prim.Native.Nat.{ℕ, zero, suc, _^_, _<_, _≤_}
 use mathlib.Core.Path.{_≡_, refl, sym, _∙_, ap, subst}
 use mathlib.Core.Bool.{Bool, true, false, false≢true}
 use mathlib.Core.List.{List, [], _∷_, _++_}
@@ -14,7 +14,9 @@ use Rattle.address.specs.declared.Address.the-variants.{V4, V6}
 use Rattle.text.specs.declared.Parsed.{Parsed}
 use Rattle.text.specs.Text.{digitValue, isHex, hexBytesOf}
 use Rattle.interface.specs.declared.incoming.Call.{Call}
-use Rattle.state.specs.State.{State, empty}
+use Rattle.denied.specs.Prefixes.{covered}
+use Rattle.denied.specs.Denied.{prefixesOf, readDenied}
+use Rattle.state.specs.State.{State, empty, meeting}
 use Rattle.state.specs.Outcomes.{Act, stateAfter}
 use Rattle.state.specs.Step.{act}
 use Rattle.lines.specs.Fields.{fieldEnd, isMore, rest, isNumber, valueOf, numberUpTo, isAddress, wordAt, addressOf}
@@ -24,9 +26,12 @@ use Rattle.script.specs.Run.{shown, lineAct, answerTo, stateTo}
 use Rattle.lines.proofs.Read.{number-at, word-fits}
 use Rattle.client_reader.specs.Fields.{Bytes, AddressFits}
 use Rattle.history.specs.Events.{CallFits, Arrival, acts, outcome, replied, Event, Lived}
-use Rattle.history.specs.Statement.{Demand3}
+use Rattle.history.specs.Statement.{Demand3From}
 use Rattle.history.specs.Lines.{Row, Ran, RanAll, FromLine, FromLines}
-use Rattle.history.proofs.Demand.{demand-3}
+use Rattle.history.proofs.Demand.{demand-3-from}
+use Rattle.history.specs.Denied.{AllMeet, KeptOut}
+use Rattle.history.proofs.Denied.{tree-stays, kept-out}
+use Rattle.history.proofs.Whole.{accounts-empty}
 
 -- ---- What a line reads is of its type
 number-most : (most : ℕ) (l : List ℕ) → valueOf (numberUpTo most l) ≤ most
@@ -160,7 +165,7 @@ module _ (before after : State) (row : Row) (ran : Ran before row after) where
 -- the call of a line, with its fresh reply buffer
 module _ (before : State) (call : Call) (datagram : List ℕ) (fits : CallFits call) (bytes : Bytes datagram) where
   abbrev arrival : Arrival
-  arrival = record { call = call; datagram = datagram; reply = replicate 1536 0; call-fits = fits; bytes = bytes }
+  arrival = record { call = call; datagram = datagram; reply = replicate 1536 0; denied = before .bookkeeping .denied; call-fits = fits; bytes = bytes }
 
   abbrev event : Event
   event = record { arrival = arrival; outcome = outcome before arrival; reply = replied before arrival }
@@ -169,15 +174,16 @@ module _ (before : State) (call : Call) (datagram : List ℕ) (fits : CallFits c
   same-act = ap (act before call datagram) (sym (length-replicate {A = ℕ} 1536 0))
 
 -- ---- The lines, one after another
-pub lines-lived : (rows : List Row) (first last : State) → RanAll first rows last → (list : List Event) × FromLines rows list × Lived first list last
-lines-lived [] first last ran = ([], refl, ran)
+pub lines-lived : (rows : List Row) (first last : State) → RanAll first rows last
+    → (list : List Event) × FromLines rows list × Lived first list last × AllMeet (first .bookkeeping .denied) list
+lines-lived [] first last ran = ([], refl, ran, tt)
 lines-lived (row ∷ rows) first last ran =
     go (lineOf (row .line)) (line-fits (row .line)) (state-is first (ran .0) row (ran .1)) (answer-is first (ran .0) row (ran .1)) (lines-lived rows (ran .0) last (ran .2))
   where
     go : (line : Line) → LineFits line → ran .0 ≡ stateTo first line → row .answer ≡ answerTo first line
-        → (list : List Event) × FromLines rows list × Lived (ran .0) list last
-        → (list : List Event) × FromLine line (row .answer) (FromLines rows) list × Lived first list last
-    go bad fits state answer more = (more .0, (answer, more .1), rw state at (more .2))
+        → (list : List Event) × FromLines rows list × Lived (ran .0) list last × AllMeet (ran .0 .bookkeeping .denied) list
+        → (list : List Event) × FromLine line (row .answer) (FromLines rows) list × Lived first list last × AllMeet (first .bookkeeping .denied) list
+    go bad fits state answer more = (more .0, (answer, more .1), rw state at (more .2), rw state at (more .3))
     go (asks call datagram) fits state answer more =
         let f = fits .fits call datagram refl in
         let e = event first call datagram (f .0) (f .1) in
@@ -185,8 +191,22 @@ lines-lived (row ∷ rows) first last ran =
           e ∷ more .0,
           (e, more .0, refl, record { call-is = refl; datagram-is = refl; answer-is = answer ∙ ap (λ (x : Act). shown x datagram (replicate 1536 0)) same }, more .1),
           (ran .0, record { outcome-is = refl; state-is = state ∙ ap (stateAfter first) same; reply-is = refl }, more .2),
+          (refl, rw (ap (λ (st : State). st .bookkeeping .denied) state ∙ tree-stays first call datagram 1536) at (more .3)),
         )
 
--- demand 3 of the call program's lines
-pub lines-demand-3 : (rows : List Row) (last : State) → RanAll empty rows last → (list : List Event) × FromLines rows list × Demand3 list
-lines-demand-3 rows last ran = let l = lines-lived rows empty last ran in (l .0, l .1, demand-3 (l .0) last (l .2))
+-- demand 3 of the call program's lines, whatever tree of denied prefixes the empty relay has
+pub lines-demand-3 : (denied : List ℕ) (rows : List Row) (last : State) → RanAll (meeting denied empty) rows last
+    → (list : List Event) × FromLines rows list × Demand3From (meeting denied empty) [] list
+lines-demand-3 denied rows last ran =
+    let first = meeting denied empty in
+    let l = lines-lived rows first last ran in
+    (l .0, l .1, demand-3-from first [] accounts-empty (l .0) last (l .2))
+
+-- and of the lines that are run with the tree of a text: nothing passes between a client and an address that it denies
+pub lines-kept-out : (text old : List ℕ) → readDenied text old .number ≡ 0 → (rows : List Row) (last : State) → RanAll (meeting (readDenied text old .nodes) empty) rows last
+    → (list : List Event) × FromLines rows list
+    × ((before after : List Event) (e : Event) → list ≡ before ++ e ∷ after → (x : ℕ) → x < 2 ^ 32 → covered (prefixesOf text) x ≡ true → KeptOut x e)
+lines-kept-out text old taken rows last ran =
+    let nodes = readDenied text old .nodes in
+    let l = lines-lived rows (meeting nodes empty) last ran in
+    (l .0, l .1, kept-out text old nodes taken (l .0) last (l .2) (l .3))

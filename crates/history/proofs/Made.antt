@@ -229,14 +229,14 @@ module _ (call : FromClient) (st : State) (s reply : List ℕ) (full : length (s
           perms← = rw is (λ n. g .from (n .perms));
         }
 
-    permitted-made : askedBy s ≡ Asked.CreatePermission → createPermission (asRules call) s own (slotAt l k) ≡ write slot out → Made (put k slot out)
-    permitted-made asked e =
+    permitted-made : (denied : Bool) → askedBy s ≡ Asked.CreatePermission → createPermission (asRules call) s denied own (slotAt l k) ≡ write slot out → Made (put k slot out)
+    permitted-made denied asked e =
         let r = permits (asRules call) s slot out own (slotAt l k) e in
         rw (r .out-is, permission-counts call s reply bytes (asks-for CreatePermission s asked))
         (refl, admitted _ _ (r .slot-is) (all-admitted (call .time) (peers s) (slotAt l k) (r .room)))
 
-    bound-made : askedBy s ≡ Asked.ChannelBind → channelBind (asRules call) s own (slotAt l k) ≡ write slot out → Made (put k slot out)
-    bound-made asked e =
+    bound-made : (denied : Bool) → askedBy s ≡ Asked.ChannelBind → channelBind (asRules call) s denied own (slotAt l k) ≡ write slot out → Made (put k slot out)
+    bound-made denied asked e =
         let r = binds (asRules call) s slot out own (slotAt l k) e in
         rw (r .out-is, channel-counts call s reply bytes (asks-for ChannelBind s asked))
         (refl, admitted _ _ (r .slot-is) (bound-admitted (call .time) (numberGiven (channelNumber s)) (firstPeer s .peer) (slotAt l k) (r .peer-free) (r .permitted) (r .bound-ok)))
@@ -303,18 +303,18 @@ module _ (call : FromClient) (st : State) (s reply : List ℕ) (full : length (s
   made-data rule u =
       made-own (λ own slot. keep (rule own slot)) (keeps _ (u _ _)) (λ slot out e. kept-not-written e) (λ k room live mine slot out e. kept-not-written e)
 
-  pub made-asked : (asked : Asked) → askedBy s ≡ asked → Makes (done st (onAsked call s (st .slots) asked .place) (onAsked call s (st .slots) asked .change))
+  pub made-asked : (denied : Bool) (asked : Asked) → askedBy s ≡ asked → Makes (done st (onAsked denied call s (st .slots) asked .place) (onAsked denied call s (st .slots) asked .change))
   unfolding found refresh createPermission channelBind
-  made-asked Asked.Allocate is = made-allocate call st s reply full fits bytes past I is
-  made-asked Asked.Refresh is =
+  made-asked denied Asked.Allocate is = made-allocate call st s reply full fits bytes past I is
+  made-asked denied Asked.Refresh is =
       made-own (refresh (asRules call) s) (respond-keeps _ _ s _ _ _) (λ slot out e. refreshes (asRules call) s slot out _ _ e .owner .live)
       (λ k room live mine slot out e. refreshed-made call st s reply full fits bytes past I k room live mine true slot out is e)
-  made-asked Asked.CreatePermission is =
-      made-own (createPermission (asRules call) s) (respond-keeps _ _ s _ _ _) (λ slot out e. permits (asRules call) s slot out _ _ e .owner .live)
-      (λ k room live mine slot out e. permitted-made call st s reply full fits bytes past I k room live mine true slot out is e)
-  made-asked Asked.ChannelBind is =
-      made-own (channelBind (asRules call) s) (respond-keeps _ _ s _ _ _) (λ slot out e. binds (asRules call) s slot out _ _ e .owner .live)
-      (λ k room live mine slot out e. bound-made call st s reply full fits bytes past I k room live mine true slot out is e)
-  made-asked Asked.Send is = made-data (send (asRules call) s) (send-unaccepted (asRules call) s)
-  made-asked Asked.ChannelData is = made-data (sendChannelData (asRules call) s) (channelled-unaccepted (asRules call) s)
-  made-asked Asked.Nothing is = made-stay call st s reply full fits bytes past I dropped dropped-unaccepted
+  made-asked denied Asked.CreatePermission is =
+      made-own (createPermission (asRules call) s denied) (respond-keeps _ _ s _ _ _) (λ slot out e. permits (asRules call) s slot out _ _ e .owner .live)
+      (λ k room live mine slot out e. permitted-made call st s reply full fits bytes past I k room live mine true slot out denied is e)
+  made-asked denied Asked.ChannelBind is =
+      made-own (channelBind (asRules call) s denied) (respond-keeps _ _ s _ _ _) (λ slot out e. binds (asRules call) s slot out _ _ e .owner .live)
+      (λ k room live mine slot out e. bound-made call st s reply full fits bytes past I k room live mine true slot out denied is e)
+  made-asked denied Asked.Send is = made-data (send (asRules call) s) (send-unaccepted (asRules call) s)
+  made-asked denied Asked.ChannelData is = made-data (sendChannelData (asRules call) s) (channelled-unaccepted (asRules call) s)
+  made-asked denied Asked.Nothing is = made-stay call st s reply full fits bytes past I dropped dropped-unaccepted

@@ -27,7 +27,8 @@ use Rattle.permission_rules.specs.Permissions.{permitPeer, permitAll, createPer
 use Rattle.data_rules.specs.Data.{permitted, relayed, relayFromPeer}
 use Rattle.decisions.specs.Client.{askedBy}
 use Rattle.interface.specs.declared.incoming.Call.{Call}
-use Rattle.state.specs.State.{State, state, empty}
+use Rattle.denied.specs.Tree.{deniedBelow, denied}
+use Rattle.state.specs.State.{State, state, freshBookkeeping, atClock, atTime, empty}
 use Rattle.state.specs.Outcomes.{Act, accept, stateAfter}
 use Rattle.interface.specs.Refusals.{clientDatagram, peerDatagram, refusal}
 use Rattle.decisions.specs.Decisions.{portsHeld, decided}
@@ -105,7 +106,7 @@ holding time expiry permissions channels = state (record {
   «transaction_id» = freshTransactionId;
   permissions = permissions;
   channels = channels;
-} ∷ replicate 63 freshSlot) (record { clock = time })
+} ∷ replicate 63 freshSlot) (atClock time freshBookkeeping)
 
 abbrev unpermitted : List Permission
 unpermitted = replicate 8 freshPermission
@@ -165,7 +166,7 @@ pub record Marked : Type 0 where
   pub repeat-1599 : Then allocation (allocateAt 1599 600) (accept (holding 1599 1600 unpermitted unbound) (told 1))
   pub repeat-1600 : Then allocation (allocateAt 1600 600) (allocates 1600 600)
   -- 'Refresh 0 gives 0, 1 gives 600'
-  pub refresh-0 : Then allocation (refreshWith 0) (refreshes (state (replicate 64 freshSlot) (record { clock = 1010 })) 0)
+  pub refresh-0 : Then allocation (refreshWith 0) (refreshes (atTime 1010 empty) 0)
   pub refresh-1 : Then allocation (refreshWith 1) (refreshes (holding 1010 1610 unpermitted unbound) 600)
   -- 'channel 0x3FFF 400, 0x4000 and 0x4FFF taken, 0x5000 400'
   pub channel-3fff : Then allocation (bindWith 0x3fff) refusesChannel
@@ -178,7 +179,7 @@ pub record Marked : Type 0 where
   pub permission-1310 : Then permission (dataAt 1310) (accept (holding 1310 1600 permitted1010 unbound) dropped)
 
 pub marked : Marked
-unfolding act refusal decided accepted portsHeld askedBy permitted relayed relayFromPeer requestCode ownCode repeats allocateCode allocated secondsLeft allocate refreshCode renewed refreshed refresh permitPeer permitAll createPermissionCode createPermission bound channelBindCode channelBind firstFree portFor anyUnknown any malformedPeer ipv6Peer check errorMessage respond liveAllocation livePermission liveChannel freshSlot isChannelNumber holds holdsUser holdsPort permits freePermission permissionEntry permit numbered leadsTo numberTaken peerTaken freeChannel channelEntry bind find entry putAt atOr count errorResponse allocateSuccess refreshSuccess bareSuccess dataIndication transactionId v4At addressAt peersOf peersFrom firstPeer numberValue sorted nextAt stepAt walkF walk wellFormed isIntegrity isUnknown attributesFrom firstOf unknownNumbers unknownTypes attributeKindOf sameAddress sameTransportAddress sameFiveTuple sameTransactionId both num bytesOf
+unfolding act refusal decided accepted portsHeld askedBy permitted relayed relayFromPeer requestCode ownCode repeats allocateCode allocated secondsLeft allocate refreshCode renewed refreshed refresh permitPeer permitAll createPermissionCode createPermission bound channelBindCode channelBind firstFree portFor anyUnknown any malformedPeer ipv6Peer check errorMessage respond liveAllocation livePermission liveChannel freshSlot isChannelNumber holds holdsUser holdsPort permits freePermission permissionEntry permit numbered leadsTo numberTaken peerTaken freeChannel channelEntry bind find entry putAt atOr count errorResponse allocateSuccess refreshSuccess bareSuccess dataIndication transactionId v4At addressAt peersOf peersFrom firstPeer numberValue sorted nextAt stepAt walkF walk wellFormed isIntegrity isUnknown attributesFrom firstOf unknownNumbers unknownTypes attributeKindOf sameAddress sameTransportAddress sameFiveTuple sameTransactionId both num bytesOf denied deniedBelow
 marked = record {
   allocate-0 = refl;
   allocate-600 = refl;

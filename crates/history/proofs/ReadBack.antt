@@ -39,6 +39,7 @@ use Rattle.rules.specs.Change.{Out, dropped, toClient, toPeer, Change, keep, wr
 use Rattle.rules.specs.Inner.{slotAfter}
 use Rattle.rules.specs.Values.{lifetime, anyUnknown, isIpv6, ipv4Of, malformedPeer, ipv6Peer}
 use Rattle.allocation_rules.specs.Allocations.{repeats, allocated, allocateReply, secondsLeft, toldAgain, newlyMade, allocate, renewed, refreshed, refresh, granted, grantedRefresh}
+use Rattle.permission_rules.specs.Denials.{anyDenied, firstDenied}
 use Rattle.permission_rules.specs.Permissions.{createPermission, channelBind}
 use Rattle.data_rules.specs.Data.{permitted, sentFrom, send, channelledFrom, sendChannelData, relayed, relayFromPeer}
 use Rattle.decisions.specs.declared.client.Asked.{Asked}
@@ -53,7 +54,7 @@ use Rattle.interface.specs.declared.incoming.FromPeer.{FromPeer}
 use Rattle.state.specs.State.{State, empty, clockOf, atTime}
 use Rattle.state.specs.Outcomes.{Act, refuse, accept, outcomeOf, stateAfter, replyAfter}
 use Rattle.interface.specs.Refusals.{timeOf, lengths, refusal}
-use Rattle.decisions.specs.Decisions.{asRules, ownPlace, slotIn, roomFor, onAsked, decided}
+use Rattle.decisions.specs.Decisions.{asRules, ownPlace, slotIn, roomFor, asksDenied, namesDenied, onAsked, decided}
 use Rattle.state.specs.Step.{done, accepted, act}
 use Rattle.decisions.specs.Inner.{Ready}
 use Rattle.relay.proofs.Laws.{not-refused}
@@ -63,12 +64,12 @@ use Rattle.client_reader.specs.declared.Message.the-variants as Is
 use Rattle.client_reader.specs.declared.ReadMessage.{ReadMessage}
 use Rattle.client_reader.specs.Fields.{Bytes, IdFits, AddressFits, IsBare, IsMessage, InRange, written, dataOf, plain, nothing, Exact}
 use Rattle.client_reader.proofs.Laws.{written-read, message-exact, one-reading, indication-within, indication-data, channel-within, channel-data}
-use Rattle.history.specs.Events.{CallFits, TransportFits, Arrival, Event, Happened, Lived, acts}
+use Rattle.history.specs.Events.{CallFits, TransportFits, Arrival, met, Event, Happened, Lived}
 use Rattle.history.specs.Fits.{SlotFits, StateFits}
 use Rattle.history.specs.ReadBack.{freePlace, successFor, unknownFor, errorFor, responseFor, relayedFor, answerFor, fieldsFor, dataFor, ReadAs, ReadBack}
 use Rattle.history.proofs.Tests.{find-some, leads-is}
 use Rattle.history.proofs.FreePort.{port-fits}
-use Rattle.history.proofs.Fits.{found-fits, empty-fits, slots-fit}
+use Rattle.history.proofs.Fits.{found-fits, met-fits, empty-fits, slots-fit}
 use Rattle.history.proofs.Replies.{id-fits}
 use Rattle.history.proofs.Codes.{Coded, allocate-coded, refresh-coded, permission-coded, channel-coded, types-in-range}
 
@@ -173,7 +174,7 @@ module _ (s : List ℕ) (bytes : Bytes s) where
       go true e = r (eqb-true code 0 e)
       go false e = error-message-back method code h (eqb-false code 0 e)
 
-  module _ (call : FromClient) (fits : CallFits (Client call)) (before after : List Slot) where
+  module _ (denied : List ℕ) (call : FromClient) (fits : CallFits (Client call)) (before after : List Slot) where
     abbrev own : Bool
     own = has (ownPlace call before)
 
@@ -205,7 +206,7 @@ module _ (s : List ℕ) (bytes : Bytes s) where
     allocated-back port seconds p n = allocate-back (transactionId s) (id-fits s bytes) _ port seconds _ (fits .0) p n (fits .1)
 
     allocate-readable : Left before after (freePlace call before) (allocate (asRules call) s (roomFor call before) slot) → SlotFits slot
-        → Readable (responseFor call s before after Allocate) [] (outOf (allocate (asRules call) s (roomFor call before) slot))
+        → Readable (responseFor denied call s before after Allocate) [] (outOf (allocate (asRules call) s (roomFor call before) slot))
     unfolding allocate allocated secondsLeft
     allocate-readable left was =
         respond-back _ _ _ _ _ (allocate-coded s (asRules call) (repeats (asRules call) s own slot) (roomFor call before))
@@ -231,7 +232,7 @@ module _ (s : List ℕ) (bytes : Bytes s) where
             allocated-back (roomFor call before .port) (granted (lifetime s)) (port-fits _ _) (omega arith) (rw taken refl) (rw taken (omega arith))
 
     refresh-readable : Left before after (ownPlace call before) (refresh (asRules call) s own slot)
-        → Readable (responseFor call s before after Refresh) [] (outOf (refresh (asRules call) s own slot))
+        → Readable (responseFor denied call s before after Refresh) [] (outOf (refresh (asRules call) s own slot))
     unfolding refresh
     refresh-readable left =
         respond-back _ _ _ _ _ (refresh-coded s (asRules call) _ _) (λ e.
@@ -240,13 +241,13 @@ module _ (s : List ℕ) (bytes : Bytes s) where
         refresh-back (transactionId s) (id-fits s bytes) _ (omega arith)
         (until-expiry (call .time) (grantedRefresh (lifetime s)) slot made))
 
-    permission-readable : Readable (responseFor call s before after CreatePermission) [] (outOf (createPermission (asRules call) s own slot))
+    permission-readable : Readable (responseFor denied call s before after CreatePermission) [] (outOf (createPermission (asRules call) s (anyDenied denied s) own slot))
     unfolding createPermission
-    permission-readable = respond-back _ _ _ _ _ (permission-coded s (asRules call) own slot) (λ e. bare-back (transactionId s) (id-fits s bytes) CreatePermission tt)
+    permission-readable = respond-back _ _ _ _ _ (permission-coded s (asRules call) _ own slot) (λ e. bare-back (transactionId s) (id-fits s bytes) CreatePermission tt)
 
-    channel-readable : Readable (responseFor call s before after ChannelBind) [] (outOf (channelBind (asRules call) s own slot))
+    channel-readable : Readable (responseFor denied call s before after ChannelBind) [] (outOf (channelBind (asRules call) s (firstDenied denied s) own slot))
     unfolding channelBind
-    channel-readable = respond-back _ _ _ _ _ (channel-coded s (asRules call) own slot) (λ e. bare-back (transactionId s) (id-fits s bytes) ChannelBind tt)
+    channel-readable = respond-back _ _ _ _ _ (channel-coded s (asRules call) _ own slot) (λ e. bare-back (transactionId s) (id-fits s bytes) ChannelBind tt)
 
     -- ---- A client's data
     send-readable : Readable nothing [] (send (asRules call) s own slot)
@@ -270,8 +271,9 @@ module _ (s : List ℕ) (bytes : Bytes s) where
             unless _ _ (not own) _ (unless _ _ (not (has (find (numbered (call .time) number) (slot .channels)))) (toPeer _ _ start len) tt)
         go Malformed = tt
 
-    asked-readable : ((i : ℕ) → SlotFits (slotAt before i)) → (asked : Asked) → Left before after (onAsked call s before asked .place) (onAsked call s before asked .change)
-        → Readable (answerFor call s before after asked) [] (outOf (onAsked call s before asked .change))
+    asked-readable : ((i : ℕ) → SlotFits (slotAt before i)) → (asked : Asked)
+        → Left before after (onAsked (asksDenied denied s asked) call s before asked .place) (onAsked (asksDenied denied s asked) call s before asked .change)
+        → Readable (answerFor denied call s before after asked) [] (outOf (onAsked (asksDenied denied s asked) call s before asked .change))
     asked-readable were Asked.Allocate left = allocate-readable left (found-fits _ before were)
     asked-readable were Asked.Refresh left = refresh-readable left
     asked-readable were Asked.CreatePermission left = permission-readable
@@ -311,62 +313,65 @@ module _ (call : FromPeer) (s : List ℕ) (fits : CallFits (Peer call)) (few : l
 
 -- ---- Every call
 
-decided-readable : (call : Call) (s reply : List ℕ) (before after : List Slot) → CallFits call → Bytes s → Ready call s reply
-    → ((i : ℕ) → SlotFits (slotAt before i)) → Left before after (decided call s before .place) (decided call s before .change)
-    → Readable (fieldsFor call s before after) (dataFor call s) (outOf (decided call s before .change))
+decided-readable : (denied : List ℕ) (call : Call) (s reply : List ℕ) (before after : List Slot) → CallFits call → Bytes s → Ready call s reply → ((i : ℕ) → SlotFits (slotAt before i))
+    → Left before after (decided (namesDenied denied call s) call s before .place) (decided (namesDenied denied call s) call s before .change)
+    → Readable (fieldsFor denied call s before after) (dataFor call s) (outOf (decided (namesDenied denied call s) call s before .change))
 unfolding decided
-decided-readable (Client call) s reply before after fits bytes ready were left = asked-readable s bytes call fits before after were (askedBy s) left
-decided-readable (Peer call) s reply before after fits bytes ready were left =
+decided-readable denied (Client call) s reply before after fits bytes ready were left = asked-readable s bytes denied call fits before after were (askedBy s) left
+decided-readable denied (Peer call) s reply before after fits bytes ready were left =
     rw (left .kept _ refl) (peer-readable call s fits (ready .short) _ _)
 
 -- the place that was found lies in the table
-asked-within : (call : FromClient) (s : List ℕ) (slots : List Slot) (asked : Asked) → Within (onAsked call s slots asked .place) (length slots)
-asked-within call s slots Asked.Allocate = found-within _ slots _ refl
-asked-within call s slots Asked.Refresh = found-within _ slots _ refl
-asked-within call s slots Asked.CreatePermission = found-within _ slots _ refl
-asked-within call s slots Asked.ChannelBind = found-within _ slots _ refl
-asked-within call s slots Asked.Send = found-within _ slots _ refl
-asked-within call s slots Asked.ChannelData = found-within _ slots _ refl
-asked-within call s slots Asked.Nothing = tt
+asked-within : (denied : Bool) (call : FromClient) (s : List ℕ) (slots : List Slot) (asked : Asked) → Within (onAsked denied call s slots asked .place) (length slots)
+asked-within denied call s slots Asked.Allocate = found-within _ slots _ refl
+asked-within denied call s slots Asked.Refresh = found-within _ slots _ refl
+asked-within denied call s slots Asked.CreatePermission = found-within _ slots _ refl
+asked-within denied call s slots Asked.ChannelBind = found-within _ slots _ refl
+asked-within denied call s slots Asked.Send = found-within _ slots _ refl
+asked-within denied call s slots Asked.ChannelData = found-within _ slots _ refl
+asked-within denied call s slots Asked.Nothing = tt
 
-decided-within : (call : Call) (s : List ℕ) (slots : List Slot) → Within (decided call s slots .place) (length slots)
+decided-within : (denied : Bool) (call : Call) (s : List ℕ) (slots : List Slot) → Within (decided denied call s slots .place) (length slots)
 unfolding decided
-decided-within (Client call) s slots = asked-within call s slots (askedBy s)
-decided-within (Peer call) s slots = found-within _ slots _ refl
+decided-within denied (Client call) s slots = asked-within denied call s slots (askedBy s)
+decided-within denied (Peer call) s slots = found-within _ slots _ refl
 
-abbrev ReadableAct : Call → List ℕ → List Slot → Act → Type 0
-ReadableAct call s before (refuse number) = Unit
-ReadableAct call s before (accept next out) = Readable (fieldsFor call s before (next .slots)) (dataFor call s) out
+abbrev ReadableAct : (denied : List ℕ) → Call → List ℕ → List Slot → Act → Type 0
+ReadableAct denied call s before (refuse number) = Unit
+ReadableAct denied call s before (accept next out) = Readable (fieldsFor denied call s before (next .slots)) (dataFor call s) out
 
 left-kept : (slots : List Slot) (place : Found) (out : Out) → Left slots slots place (keep out)
 left-kept slots place out = record { wrote = λ slot out e. kept-not-written e; kept = λ out e. refl }
 
-done-readable : (call : Call) (s : List ℕ) (st : State) (place : Found) (change : Change) → Within place (length (st .slots))
+done-readable : (denied : List ℕ) (call : Call) (s : List ℕ) (st : State) (place : Found) (change : Change) → Within place (length (st .slots))
     → ((slot : Slot) (out : Out) → change ≡ write slot out → has place ≡ true)
-    → ((after : List Slot) → Left (st .slots) after place change → Readable (fieldsFor call s (st .slots) after) (dataFor call s) (outOf change))
-    → ReadableAct call s (st .slots) (done st place change)
+    → ((after : List Slot) → Left (st .slots) after place change → Readable (fieldsFor denied call s (st .slots) after) (dataFor call s) (outOf change))
+    → ReadableAct denied call s (st .slots) (done st place change)
 unfolding atOr
-done-readable call s st (At k) (keep out) w h f = f (st .slots) (left-kept (st .slots) (At k) out)
-done-readable call s st (At k) (write slot out) w h f =
+done-readable denied call s st (At k) (keep out) w h f = f (st .slots) (left-kept (st .slots) (At k) out)
+done-readable denied call s st (At k) (write slot out) w h f =
     f (set (st .slots) k slot) (record {
       wrote = λ other out e. getD-set-same (st .slots) k slot freshSlot w ∙ ap (slotAfter freshSlot) e;
       kept = λ out e. kept-not-written (sym e);
     })
-done-readable call s st Nothing (keep out) w h f = f (st .slots) (left-kept (st .slots) Nothing out)
-done-readable call s st Nothing (write slot out) w h f = absurd (false≢true (h slot out refl))
+done-readable denied call s st Nothing (keep out) w h f = f (st .slots) (left-kept (st .slots) Nothing out)
+done-readable denied call s st Nothing (write slot out) w h f = absurd (false≢true (h slot out refl))
 
-act-readable : (st : State) (a : Arrival) → StateFits st → ReadableAct (a .call) (a .datagram) (st .slots) (acts st a)
+act-readable : (st : State) (a : Arrival) → StateFits st
+    → ReadableAct (st .bookkeeping .denied) (a .call) (a .datagram) (st .slots) (act st (a .call) (a .datagram) (length (a .reply)))
 unfolding act accepted
 act-readable st a f = go (eqb number 0) refl
   where
     number : ℕ
     number = refusal (clockOf st) (lengths (length (st .slots)) (length (a .datagram)) (length (a .reply))) (a .call)
 
-    go : (b : Bool) → eqb number 0 ≡ b → ReadableAct (a .call) (a .datagram) (st .slots) (pick b (accepted st (a .call) (a .datagram)) (refuse number))
+    go : (b : Bool) → eqb number 0 ≡ b → ReadableAct (st .bookkeeping .denied) (a .call) (a .datagram) (st .slots) (pick b (accepted st (a .call) (a .datagram)) (refuse number))
     go true e =
-        done-readable (a .call) (a .datagram) (atTime (timeOf (a .call)) st) _ _ (decided-within (a .call) (a .datagram) (st .slots))
-        (decided-writes (a .call) (a .datagram) (st .slots)) (λ after left.
-        decided-readable (a .call) (a .datagram) (a .reply) (st .slots) after (a .call-fits) (a .bytes)
+        let denied = st .bookkeeping .denied in
+        let names = namesDenied denied (a .call) (a .datagram) in
+        done-readable denied (a .call) (a .datagram) (atTime (timeOf (a .call)) st) _ _ (decided-within names (a .call) (a .datagram) (st .slots))
+        (decided-writes names (a .call) (a .datagram) (st .slots)) (λ after left.
+        decided-readable denied (a .call) (a .datagram) (a .reply) (st .slots) after (a .call-fits) (a .bytes)
         (not-refused (clockOf st) (st .slots) (a .datagram) (a .reply) (a .call) (eqb-true number 0 e) .ready) (f .slots) left)
     go false e = tt
 
@@ -383,17 +388,18 @@ sent-readable fields payload (toPeer port peer start len) reply C n r e = let z 
 
 -- what is sent to a client is read back as the fields that went in
 pub read-back : ReadBack
-read-back before after a reply′ C n f d = rw (d .state-is, d .reply-is) (go (acts before a) (act-readable before a f) (d .outcome-is))
+read-back before after a reply′ C n f d = rw (d .state-is, d .reply-is) (go (act before (a .call) (a .datagram) (length (a .reply))) (act-readable before a f) (d .outcome-is))
   where
-    go : (x : Act) → ReadableAct (a .call) (a .datagram) (before .slots) x → ToClient C n ≡ outcomeOf x
-        → ReadAs (fieldsFor (a .call) (a .datagram) (before .slots) (stateAfter before x .slots)) (dataFor (a .call) (a .datagram)) (take n (replyAfter (a .reply) x))
+    go : (x : Act) → ReadableAct (before .bookkeeping .denied) (a .call) (a .datagram) (before .slots) x → ToClient C n ≡ outcomeOf x
+        → ReadAs (fieldsFor (before .bookkeeping .denied) (a .call) (a .datagram) (before .slots) (stateAfter before x .slots)) (dataFor (a .call) (a .datagram)) (take n (replyAfter (a .reply) x))
     go (refuse number) r e = let z : _≡_ {A = ℕ} 0 1 = cc in let y : ⊥ = omega arith in absurd y
     go (accept next out) r e = sent-readable _ _ out (a .reply) C n r e
 
 -- so it is of every call after a list of calls to an empty relay
 pub lived-read-back : (list : List Event) (st after : State) (e : Event) (C : FiveTuple) (n : ℕ) → Lived empty list st → Happened st e after → e .outcome ≡ ToClient C n
-    → ReadAs (fieldsFor (e .arrival .call) (e .arrival .datagram) (st .slots) (after .slots)) (dataFor (e .arrival .call) (e .arrival .datagram)) (take n (e .reply))
-lived-read-back list st after e C n lived h is = read-back st after (e .arrival) (e .reply) C n (slots-fit list empty st lived empty-fits) (rw is at h)
+    → ReadAs (fieldsFor (e .arrival .denied) (e .arrival .call) (e .arrival .datagram) (st .slots) (after .slots)) (dataFor (e .arrival .call) (e .arrival .datagram)) (take n (e .reply))
+lived-read-back list st after e C n lived h is =
+    read-back (met st (e .arrival)) after (e .arrival) (e .reply) C n (met-fits st (e .arrival) (slots-fit list empty st lived empty-fits)) (rw is at h)
 
 module _ {fields : ReadMessage} {payload message : List ℕ} (back : ReadAs fields payload message) where
   -- no other fields make the message

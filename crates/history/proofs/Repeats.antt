@@ -47,17 +47,17 @@ use Rattle.client_reader.specs.declared.Message.the-variants as Reads
 use Rattle.client_reader.specs.Fields.{Bytes}
 use Rattle.client_reader.specs.Reader.{messageIn}
 use Rattle.history.specs.Counted.{Counted, gave, kept, allowed, nothing, granted}
-use Rattle.history.specs.Events.{CallFits, Arrival, Event, Happened, Lived, asks, countsAs, countsBy, counted, acts, outcome, replied, next, run, events}
+use Rattle.history.specs.Events.{CallFits, Arrival, met, Event, Happened, Lived, asks, countsAs, countsBy, counted, acts, outcome, replied, next, run, events}
 use Rattle.history.specs.Fits.{StateFits}
 use Rattle.history.specs.Statement.{Live}
 use Rattle.history.proofs.Readings.{Given, granted-is}
-use Rattle.history.proofs.Table.{Accounts, AccountsFor, accounts-later, no-lifetime}
+use Rattle.history.proofs.Table.{AccountsFor, accounts-later, no-lifetime}
 use Rattle.history.proofs.Tests.{has-not, found-own, none-own, clash}
 use Rattle.history.proofs.Asking.{asks-for, asks-no-other}
 use Rattle.history.proofs.Replies.{Unaccepted, dropped-unaccepted, error-unaccepted, allocate-counts}
 use Rattle.history.proofs.Made.{send-unaccepted, channelled-unaccepted}
 use Rattle.history.proofs.Whole.{accounts-empty, lived-accounts, refused-counts, done-keep}
-use Rattle.history.proofs.Fits.{found-fits, empty-fits, slots-fit}
+use Rattle.history.proofs.Fits.{found-fits, met-fits, empty-fits, slots-fit}
 
 -- ---- What a repeat is
 
@@ -128,7 +128,7 @@ module _ (st : State) (past : List Counted) (I : AccountsFor past st) (typed : S
   abbrev Answers : FromClient → (s reply : List ℕ) → Act → Type 0
   Answers call s reply x = countsBy (Client call) s (outcomeOf x) (replyAfter reply x) ≡ gave C port t seconds → Answered st (stateAfter st x) C port t seconds
 
-  module _ (call : FromClient) (s reply : List ℕ) (fits : CallFits (Client call)) (bytes : Bytes s) (not-before : clockOf st ≤ call .time) where
+  module _ (denied : Bool) (call : FromClient) (s reply : List ℕ) (fits : CallFits (Client call)) (bytes : Bytes s) (not-before : clockOf st ≤ call .time) where
     abbrev now : State
     now = atTime (call .time) st
 
@@ -196,10 +196,10 @@ module _ (st : State) (past : List Counted) (I : AccountsFor past st) (typed : S
         go false e r same = silent place (toClient (call .«five_tuple») (errorMessage Allocate s code)) (error-unaccepted (call .«five_tuple») Allocate s code)
 
     abbrev doing : Asked → Act
-    doing asked = done now (onAsked call s l asked .place) (onAsked call s l asked .change)
+    doing asked = done now (onAsked denied call s l asked .place) (onAsked denied call s l asked .change)
 
     asked-answers : (asked : Asked) → askedBy s ≡ asked → Answers call s reply (doing asked)
-    asked-answers Asked.Allocate e = allocate-answers (onAsked call s l Asked.Allocate .place) e
+    asked-answers Asked.Allocate e = allocate-answers (onAsked denied call s l Asked.Allocate .place) e
     asked-answers Asked.Refresh e = other Refresh refl e (doing Asked.Refresh)
     asked-answers Asked.CreatePermission e = other CreatePermission refl e (doing Asked.CreatePermission)
     asked-answers Asked.ChannelBind e = other ChannelBind refl e (doing Asked.ChannelBind)
@@ -212,10 +212,14 @@ module _ (st : State) (past : List Counted) (I : AccountsFor past st) (typed : S
       → countsBy call s (outcomeOf (accepted st call s)) (replyAfter reply (accepted st call s)) ≡ gave C port t seconds
       → Answered st (stateAfter st (accepted st call s)) C port t seconds
   unfolding accepted decided
-  call-answered (Client call) s reply fits bytes le q = asked-answers call s reply fits bytes le (askedBy s) refl q
+  call-answered (Client call) s reply fits bytes le q = asked-answers _ call s reply fits bytes le (askedBy s) refl q
   call-answered (Peer call) s reply fits bytes le q = never refl q
 
-  answered-by : (a : Arrival) → countsBy (a .call) (a .datagram) (outcome st a) (replied st a) ≡ gave C port t seconds → Answered st (next st a) C port t seconds
+  abbrev doneBy : Arrival → Act
+  doneBy a = act st (a .call) (a .datagram) (length (a .reply))
+
+  answered-by : (a : Arrival) → countsBy (a .call) (a .datagram) (outcomeOf (doneBy a)) (replyAfter (a .reply) (doneBy a)) ≡ gave C port t seconds
+      → Answered st (stateAfter st (doneBy a)) C port t seconds
   unfolding act
   answered-by a = go (eqb number 0) refl
     where
@@ -232,10 +236,10 @@ module _ (st : State) (past : List Counted) (I : AccountsFor past st) (typed : S
 
 -- after a list of calls to an empty relay
 repeat-answered : (list : List Event) (st after : State) (e : Event) → Lived empty list st → Happened st e after → (C : FiveTuple) (port t seconds : ℕ)
-    → Repeat (counted [] list) e C port t seconds → Answered st after C port t seconds
+    → Repeat (counted [] list) e C port t seconds → Answered (met st (e .arrival)) after C port t seconds
 repeat-answered list st after e lived h C port t seconds r =
     rw (h .state-is)
-    (answered-by st (counted [] list) (lived-accounts list empty st [] lived accounts-empty) (slots-fit list empty st lived empty-fits) C port t seconds (r .lasting) (e .arrival)
+    (answered-by (met st (e .arrival)) (counted [] list) (lived-accounts list empty st [] lived accounts-empty) (met-fits st (e .arrival) (slots-fit list empty st lived empty-fits)) C port t seconds (r .lasting) (e .arrival)
     (rw (h .outcome-is, h .reply-is) at (r .answered)))
 
 -- ---- The clock alone
@@ -265,24 +269,25 @@ clock-unseen : (later : List Arrival) (st : State) (u t : ℕ) → clockOf st �
 clock-unseen [] st u t le le′ none = record { answers = refl; state = refl }
 clock-unseen (a ∷ later) st u t le le′ none =
     let alike = acts-alike st u a (omega (arith, none .0)) (omega (arith, none .0)) in
-    let r = on (clock-unseen later st u t le le′ (none .1)) (acts st a) in
+    let r = on (clock-unseen later (met st a) u t le le′ (none .1)) (acts st a) in
     record { answers = rw alike (ap (λ (l : List Event). event ∷ l) (r .answers)); state = rw alike (r .state) }
   where
     event : Event
     event = record { arrival = a; outcome = outcome st a; reply = replied st a }
 
-    on : Unseen st (atTime u st) later → (x : Act) → Unseen (stateAfter st x) (stateAfter (atTime u st) x) later
+    on : Unseen (met st a) (atTime u (met st a)) later → (x : Act) → Unseen (stateAfter (met st a) x) (stateAfter (atTime u (met st a)) x) later
     on unseen (refuse number) = unseen
     on unseen (accept next out) = record { answers = refl; state = refl }
 
 -- ---- The two corollaries
 
--- a repeat changes nothing for anybody: the relay after it is the same but for the clock, and answers every later list of calls as if it had not come
+-- a repeat changes nothing for anybody: the relay after it is as it met it but for the clock, and answers every later list of calls as if it had not
+-- come
 pub repeat-unseen : (list : List Event) (st after : State) (e : Event) → Lived empty list st → Happened st e after → (C : FiveTuple) (port t seconds : ℕ)
-    → Repeat (counted [] list) e C port t seconds → (after ≡ atTime t st) × ((later : List Arrival) → NoneBefore t later → Unseen st after later)
+    → Repeat (counted [] list) e C port t seconds → (after ≡ atTime t (met st (e .arrival))) × ((later : List Arrival) → NoneBefore t later → Unseen (met st (e .arrival)) after later)
 repeat-unseen list st after e lived h C port t seconds r =
     let x = repeat-answered list st after e lived h C port t seconds r in
-    (x .same, λ later none. rw (x .same) (clock-unseen later st t t (x .not-before) (le-refl t) none))
+    (x .same, λ later none. rw (x .same) (clock-unseen later (met st (e .arrival)) t t (x .not-before) (le-refl t) none))
 
 -- what C was told: its latest accepted Allocate gave this port, which nobody was given after it, and from t on the last lifetime granted to C, by
 -- that Allocate or a Refresh since, lasts until just this second
@@ -302,7 +307,7 @@ repeat-tells list st after e lived h C port t seconds r = record { given = rw (x
     I : AccountsFor past st
     I = lived-accounts list empty st [] lived accounts-empty
 
-    x : Answered st after C port t seconds
+    x : Answered (met st (e .arrival)) after C port t seconds
     x = repeat-answered list st after e lived h C port t seconds r
 
     was : Live (clockOf st) (slotAt (st .slots) (x .k))

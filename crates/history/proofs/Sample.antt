@@ -25,6 +25,7 @@ use Rattle.allocation_rules.specs.Allocations.{repeats, allocateCode, allocated
 use Rattle.permission_rules.specs.Permissions.{permitPeer, permitAll, createPermissionCode, createPermission}
 use Rattle.data_rules.specs.Data.{permitted, relayed, relayFromPeer}
 use Rattle.decisions.specs.Client.{askedBy}
+use Rattle.denied.specs.Tree.{deniedBelow, denied, noneDenied}
 use Rattle.state.specs.State.{State, empty}
 use Rattle.interface.specs.Refusals.{clientDatagram, peerDatagram, refusal}
 use Rattle.decisions.specs.Decisions.{portsHeld, decided}
@@ -72,6 +73,7 @@ allocating = record {
   call = clientDatagram 1000 3 5 0xcb00_7105 caller;
   datagram = allocateBytes;
   reply = room;
+  denied = noneDenied;
   call-fits = (lit< tt, (lit< tt, lit< tt), (lit< tt, lit< tt), lit< tt, lit< tt, lit< tt, lit< tt);
   bytes = allocate-bytes;
 }
@@ -81,6 +83,7 @@ permitting = record {
   call = clientDatagram 1010 3 0 0xcb00_7105 caller;
   datagram = permissionBytes;
   reply = room;
+  denied = noneDenied;
   call-fits = (lit< tt, (lit< tt, lit< tt), (lit< tt, lit< tt), lit< tt, lit< tt, lit< tt, lit< tt);
   bytes = permission-bytes;
 }
@@ -91,6 +94,7 @@ coming time fits = record {
   call = peerDatagram time (from 0xc000_0296 5000) 49157 (record { high = 0; middle = 0; low = 0 });
   datagram = dataBytes;
   reply = room;
+  denied = noneDenied;
   call-fits = ((lit< tt, lit< tt), (lit< tt, lit< tt, lit< tt), lit< tt, fits);
   bytes = data-bytes;
 }
@@ -112,7 +116,7 @@ pub record Sample : Type 0 where
       ≡ record { user = 3; «five_tuple» = caller; port = 49157; expiry = 1600 }
 
 pub sample : Sample
-unfolding act refusal askedBy sorted wellFormed walk walkF stepAt nextAt num decided allocate respond repeats allocateCode requestCode check anyUnknown unknownTypes unknownNumbers attributesFrom isIntegrity isUnknown attributeKindOf find holds holdsUser holdsPort liveAllocation both sameFiveTuple sameTransportAddress sameAddress freshSlot numberValue firstOf count portFor firstFree portsHeld allocated allocateSuccess bytesOf transactionId accepted createPermission createPermissionCode ownCode permitAll permitPeer permit permissionEntry entry putAt permits freePermission livePermission any malformedPeer ipv6Peer peersFrom peersOf addressAt v4At bareSuccess relayFromPeer permitted relayed leadsTo liveChannel isChannelNumber atOr dataIndication
+unfolding act refusal askedBy sorted wellFormed walk walkF stepAt nextAt num decided allocate respond repeats allocateCode requestCode check anyUnknown unknownTypes unknownNumbers attributesFrom isIntegrity isUnknown attributeKindOf find holds holdsUser holdsPort liveAllocation both sameFiveTuple sameTransportAddress sameAddress freshSlot numberValue firstOf count portFor firstFree portsHeld allocated allocateSuccess bytesOf transactionId accepted createPermission createPermissionCode ownCode permitAll permitPeer permit permissionEntry entry putAt permits freePermission livePermission any malformedPeer ipv6Peer peersFrom peersOf addressAt v4At bareSuccess relayFromPeer permitted relayed leadsTo liveChannel isChannelNumber atOr dataIndication denied deniedBelow
 sample = record {
   allocate-line = record { to = refl; holds = refl };
   permission-line = record { to = refl; holds = refl };

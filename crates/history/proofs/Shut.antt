@@ -14,7 +14,7 @@ use Rattle.interface.specs.Refusals.{timeOf}
 use Rattle.state.specs.Outcomes.{Act, outcomeOf, replyAfter, stateAfter}
 use Rattle.table.specs.Table.{slotAt}
 use Rattle.history.specs.Counted.{Counted, gave, kept, allowed, nothing, withoutRepeats}
-use Rattle.history.specs.Events.{Arrival, acts, next, Event, Happened, Lived, countsBy, counts, counted}
+use Rattle.history.specs.Events.{Arrival, met, acts, next, Event, Happened, Lived, countsBy, counts, counted}
 use Rattle.history.specs.Statement.{Live, Lasts, FromAddress, Comes, To}
 use Rattle.history.proofs.Readings.{Given, Granted, Allowed, goes→, goes←}
 use Rattle.history.proofs.Table as table
@@ -108,11 +108,11 @@ module _ (C : FiveTuple) (R : ℕ) (a : Address) where
   open-since (e ∷ more) st last past t u l I none le later o =
       let m = moves st (e .arrival) in
       let h = l .1 in
-      let rises = clock-rises st (e .arrival) (acts st (e .arrival)) m in
+      let rises = clock-rises (met st (e .arrival)) (e .arrival) (acts st (e .arrival)) m in
       let on : t ≤ clockOf (l .0) = rw (h .state-is) (omega arith) in
       let next = open-since more (l .0) last (counts past e ∷ past) t u (l .2) (happened-accounts st e (l .0) past h I) (none .1) on later o in
       open-before past t (counts past e) (none .0)
-      (λ s n q. let r = refresh-lasted st (e .arrival) past I (acts st (e .arrival)) m C s n (rw (h .outcome-is, h .reply-is) at q) in granted-before past C t s (omega (arith, r .0)) (r .1))
+      (λ s n q. let r = refresh-lasted (met st (e .arrival)) (e .arrival) past I (acts st (e .arrival)) m C s n (rw (h .outcome-is, h .reply-is) at q) in granted-before past C t s (omega (arith, r .0)) (r .1))
       next
 
 -- ---- The theorem
@@ -122,7 +122,7 @@ peer-clock : (st after : State) (e : Event) (R : ℕ) (a : Address) (t : ℕ) �
     → ((number : ℕ) → e .outcome ≢ Refused number) → (clockOf st ≤ t) × (t ≤ clockOf after)
 peer-clock st after e R a t h from nr = go (acts st (e .arrival)) (moves st (e .arrival)) (h .outcome-is) (h .state-is)
   where
-    go : (x : Act) → Moved st (e .arrival) x → e .outcome ≡ outcomeOf x → after ≡ stateAfter st x → (clockOf st ≤ t) × (t ≤ clockOf after)
+    go : (x : Act) → Moved (met st (e .arrival)) (e .arrival) x → e .outcome ≡ outcomeOf x → after ≡ stateAfter (met st (e .arrival)) x → (clockOf st ≤ t) × (t ≤ clockOf after)
     go x (refused number q) o s = absurd (nr number (o ∙ ap outcomeOf q))
     go x (changed le clock c) o s =
         let time : timeOf (e .arrival .call) ≡ t = rw (from .2) in
@@ -132,7 +132,7 @@ peer-clock st after e R a t h from nr = go (acts st (e .arrival)) (moves st (e .
 clock-rises-on : (more : List Event) (st last : State) → Lived st more last → clockOf st ≤ clockOf last
 clock-rises-on [] st last l = rw l (le-refl _)
 clock-rises-on (e ∷ more) st last l =
-    let one : clockOf st ≤ clockOf (l .0) = rw (l .1 .state-is) (clock-rises st (e .arrival) (acts st (e .arrival)) (moves st (e .arrival))) in
+    let one : clockOf st ≤ clockOf (l .0) = rw (l .1 .state-is) (clock-rises (met st (e .arrival)) (e .arrival) (acts st (e .arrival)) (moves st (e .arrival))) in
     le-trans one (clock-rises-on more (l .0) last (l .2))
 
 peer-counts : (past : List Counted) (e : Event) (R : ℕ) (a : Address) (t : ℕ) → FromAddress (e .arrival) R a t → counts past e ≡ nothing

@@ -27,7 +27,7 @@ use Rattle.state.specs.Outcomes.{Act, refuse, accept, outcomeOf}
 use Rattle.interface.specs.Refusals.{timeOf, lengths, refusal}
 use Rattle.interface.specs.Sending.{sent}
 use Rattle.decisions.specs.Decisions.{asRules, roomFor, onAsked, decided}
-use Rattle.state.specs.Step.{done, accepted, act}
+use Rattle.state.specs.Step.{done, decision, accepted, act}
 use Rattle.relay.proofs.Laws.{none-of}
 
 -- what an act gives out fits
@@ -35,19 +35,19 @@ abbrev ActFits : List ℕ → Act → Type 0
 ActFits s (refuse number) = Unit
 ActFits s (accept next out) = (length s ≤ 1500) × Fits s out
 
-asked-fits : (call : FromClient) (s : List ℕ) (slots : List Slot) (asked : Asked) → Fits s (outOf (onAsked call s slots asked .change))
-asked-fits call s slots Asked.Allocate = allocate-fits (asRules call) s (roomFor call slots) _
-asked-fits call s slots Asked.Refresh = refresh-fits (asRules call) s _ _
-asked-fits call s slots Asked.CreatePermission = create-permission-fits (asRules call) s _ _
-asked-fits call s slots Asked.ChannelBind = channel-bind-fits (asRules call) s _ _
-asked-fits call s slots Asked.Send = send-fits (asRules call) s _ _
-asked-fits call s slots Asked.ChannelData = channelled-fits (asRules call) s _ _
-asked-fits call s slots Asked.Nothing = tt
+asked-fits : (denied : Bool) (call : FromClient) (s : List ℕ) (slots : List Slot) (asked : Asked) → Fits s (outOf (onAsked denied call s slots asked .change))
+asked-fits denied call s slots Asked.Allocate = allocate-fits (asRules call) s (roomFor call slots) _
+asked-fits denied call s slots Asked.Refresh = refresh-fits (asRules call) s _ _
+asked-fits denied call s slots Asked.CreatePermission = create-permission-fits (asRules call) s _ _ _
+asked-fits denied call s slots Asked.ChannelBind = channel-bind-fits (asRules call) s _ _ _
+asked-fits denied call s slots Asked.Send = send-fits (asRules call) s _ _
+asked-fits denied call s slots Asked.ChannelData = channelled-fits (asRules call) s _ _
+asked-fits denied call s slots Asked.Nothing = tt
 
-decided-fits : (call : Call) (s : List ℕ) (slots : List Slot) → length s ≤ 1500 → Fits s (outOf (decided call s slots .change))
+decided-fits : (denied : Bool) (call : Call) (s : List ℕ) (slots : List Slot) → length s ≤ 1500 → Fits s (outOf (decided denied call s slots .change))
 unfolding decided
-decided-fits (Client call) s slots h = asked-fits call s slots (askedBy s)
-decided-fits (Peer call) s slots h = from-peer-fits (call .time) (call .source) (call .id) s _ _ h
+decided-fits denied (Client call) s slots h = asked-fits denied call s slots (askedBy s)
+decided-fits denied (Peer call) s slots h = from-peer-fits (call .time) (call .source) (call .id) s _ _ h
 
 done-fits : (s : List ℕ) (st : State) (found : Found) (change : Change) → length s ≤ 1500 → Fits s (outOf change) → ActFits s (done st found change)
 done-fits s st (At k) (keep out) h f = (h, f)
@@ -72,7 +72,7 @@ act-fits st call s reply = go (eqb number 0) refl
     go : (b : Bool) → eqb number 0 ≡ b → ActFits s (pick b (accepted st call s) (refuse number))
     go true e =
         let h = not-long (clockOf st) (length (st .slots)) reply s call (eqb-true number 0 e) in
-        done-fits s (atTime (timeOf call) st) (decided call s (st .slots) .place) (decided call s (st .slots) .change) h (decided-fits call s (st .slots) h)
+        done-fits s (atTime (timeOf call) st) (decision st call s .place) (decision st call s .change) h (decided-fits _ call s (st .slots) h)
     go false e = tt
 
 -- a part of n bytes or none has n bytes at most

@@ -35,12 +35,12 @@ use Rattle.interface.specs.declared.incoming.FromPeer.{FromPeer}
 use Rattle.state.specs.State.{State, empty, clockOf, atTime}
 use Rattle.state.specs.Outcomes.{Act, refuse, accept, outcomeOf, replyAfter, stateAfter}
 use Rattle.interface.specs.Refusals.{timeOf, lengths, refusal}
-use Rattle.decisions.specs.Decisions.{onAsked, decided}
-use Rattle.state.specs.Step.{done, accepted, act}
+use Rattle.decisions.specs.Decisions.{namesDenied, onAsked, decided}
+use Rattle.state.specs.Step.{done, decision, accepted, act}
 use Rattle.relay.proofs.Laws.{not-refused}
 use Rattle.history.specs.Counted.{Counted, nothing, withoutRepeats}
 use Rattle.client_reader.specs.Fields.{Bytes}
-use Rattle.history.specs.Events.{CallFits, Arrival, acts, outcome, replied, next, Event, Happened, Lived, countsBy, counts, counted}
+use Rattle.history.specs.Events.{CallFits, Arrival, met, acts, outcome, replied, next, Event, Happened, Lived, countsBy, counts, counted}
 use Rattle.history.specs.Statement.{Live, Apart, GoesTo, FromAddress}
 use Rattle.history.proofs.Readings.{given-holder, goes→, goes←}
 use Rattle.history.proofs.Table as table
@@ -75,7 +75,7 @@ refused-counts (Peer call) s number reply = refl
 -- a call that is not refused sets the clock
 clock-accepted : (st : State) (call : Call) (s : List ℕ) → clockOf (stateAfter st (accepted st call s)) ≡ timeOf call
 unfolding accepted
-clock-accepted st call s = go (decided call s (st .slots) .place) (decided call s (st .slots) .change)
+clock-accepted st call s = go (decision st call s .place) (decision st call s .change)
   where
     go : (found : Found) (change : Change) → clockOf (stateAfter st (done (atTime (timeOf call) st) found change)) ≡ timeOf call
     go (At k) (keep out) = refl
@@ -104,6 +104,9 @@ made : (call : Call) (st : State) (s reply : List ℕ) → length (st .slots) �
 unfolding accepted decided
 made (Client call) st s reply full fits bytes past I = go (askedBy s) refl
   where
+    denied : Bool
+    denied = namesDenied (st .bookkeeping .denied) (Client call) s
+
     -- an act that is not a refusal says itself what state it leaves
     same : (found : Found) (change : Change)
         → table.Change (call .time) (slotAt (st .slots)) (slotAt (stateAfter (atTime (call .time) st) (done (atTime (call .time) st) found change) .slots))
@@ -115,10 +118,10 @@ made (Client call) st s reply full fits bytes past I = go (askedBy s) refl
     same Nothing change c = c
 
     go : (asked : Asked) → askedBy s ≡ asked → table.Change (call .time) (slotAt (st .slots))
-        (slotAt (stateAfter st (done (atTime (call .time) st) (onAsked call s (st .slots) asked .place) (onAsked call s (st .slots) asked .change)) .slots))
-        (withoutRepeats past (countsBy (Client call) s (outcomeOf (done (atTime (call .time) st) (onAsked call s (st .slots) asked .place) (onAsked call s (st .slots) asked .change)))
-        (replyAfter reply (done (atTime (call .time) st) (onAsked call s (st .slots) asked .place) (onAsked call s (st .slots) asked .change)))))
-    go asked is = same (onAsked call s (st .slots) asked .place) (onAsked call s (st .slots) asked .change) (made-asked call (atTime (call .time) st) s reply full fits bytes past I asked is)
+        (slotAt (stateAfter st (done (atTime (call .time) st) (onAsked denied call s (st .slots) asked .place) (onAsked denied call s (st .slots) asked .change)) .slots))
+        (withoutRepeats past (countsBy (Client call) s (outcomeOf (done (atTime (call .time) st) (onAsked denied call s (st .slots) asked .place) (onAsked denied call s (st .slots) asked .change)))
+        (replyAfter reply (done (atTime (call .time) st) (onAsked denied call s (st .slots) asked .place) (onAsked denied call s (st .slots) asked .change)))))
+    go asked is = same (onAsked denied call s (st .slots) asked .place) (onAsked denied call s (st .slots) asked .change) (made-asked call (atTime (call .time) st) s reply full fits bytes past I denied asked is)
 made (Peer call) st s reply full fits bytes past I = rw (peer-stays call st s) (quiet (call .time) (slotAt (st .slots)))
 
 -- what a call does to the table: nothing, where it is refused; else a change at its time, which what it counts as allows, by what was counted before
@@ -130,18 +133,21 @@ pub data Moved (st : State) (a : Arrival) (x : Act) : Type 0 where
       (withoutRepeats past (countsBy (a .call) (a .datagram) (outcomeOf x) (replyAfter (a .reply) x))))
       → Moved st a x
 
-pub moves : (st : State) (a : Arrival) → Moved st a (acts st a)
+pub moves : (st : State) (a : Arrival) → Moved (met st a) a (acts st a)
 unfolding act
 moves st a = go (eqb number 0) refl
   where
+    there : State
+    there = met st a
+
     number : ℕ
     number = refusal (clockOf st) (lengths (length (st .slots)) (length (a .datagram)) (length (a .reply))) (a .call)
 
-    go : (b : Bool) → eqb number 0 ≡ b → Moved st a (pick b (accepted st (a .call) (a .datagram)) (refuse number))
+    go : (b : Bool) → eqb number 0 ≡ b → Moved there a (pick b (accepted there (a .call) (a .datagram)) (refuse number))
     go true e =
         let w = not-refused (clockOf st) (st .slots) (a .datagram) (a .reply) (a .call) (eqb-true number 0 e) in
-        changed (w .not-before) (clock-accepted st (a .call) (a .datagram))
-        (made (a .call) st (a .datagram) (a .reply) (w .sixty-four) (a .call-fits) (a .bytes))
+        changed (w .not-before) (clock-accepted there (a .call) (a .datagram))
+        (made (a .call) there (a .datagram) (a .reply) (w .sixty-four) (a .call-fits) (a .bytes))
     go false e = refused number refl
 
 -- so what was counted accounts for the state after it
@@ -149,7 +155,7 @@ after-call : (st : State) (a : Arrival) (past : List Counted) → AccountsFor pa
     → AccountsFor (withoutRepeats past (countsBy (a .call) (a .datagram) (outcome st a) (replied st a)) ∷ past) (next st a)
 after-call st a past I = go (acts st a) (moves st a)
   where
-    go : (x : Act) → Moved st a x → AccountsFor (withoutRepeats past (countsBy (a .call) (a .datagram) (outcomeOf x) (replyAfter (a .reply) x)) ∷ past) (stateAfter st x)
+    go : (x : Act) → Moved (met st a) a x → AccountsFor (withoutRepeats past (countsBy (a .call) (a .datagram) (outcomeOf x) (replyAfter (a .reply) x)) ∷ past) (stateAfter (met st a) x)
     go x (refused number e) =
         rw (e, refused-counts (a .call) (a .datagram) number (a .reply)) (keep-accounts _ _ _ _ past nothing (le-refl _) I (quiet _ _))
     go x (changed le clock c) = rw clock (keep-accounts _ (timeOf (a .call)) _ _ past _ le I (c past (accounts-later _ _ _ past le I)))
@@ -224,11 +230,11 @@ module _ (st : State) (past : List Counted) (I : AccountsFor past st) (a : Arriv
       number = refusal (clockOf st) (lengths (length (st .slots)) (length (a .datagram)) (length (a .reply))) c
 
       go : (b : Bool) → eqb number 0 ≡ b
-          → ((n : ℕ) → outcomeOf (pick b (accepted st c (a .datagram)) (refuse number)) ≢ Refused n)
-          → (clockOf st ≤ t) × Verdict (st .slots) t R (V4 x) (outcomeOf (pick b (accepted st c (a .datagram)) (refuse number)))
+          → ((n : ℕ) → outcomeOf (pick b (accepted (met st a) c (a .datagram)) (refuse number)) ≢ Refused n)
+          → (clockOf st ≤ t) × Verdict (st .slots) t R (V4 x) (outcomeOf (pick b (accepted (met st a) c (a .datagram)) (refuse number)))
       go true e nr =
           let le : clockOf st ≤ t = not-refused (clockOf st) (st .slots) (a .datagram) (a .reply) c (eqb-true number 0 e) .not-before in
-          (le, rw (peer-stays _ st (a .datagram)) (arrives (st .slots) t x (from .0) R (from .1) (a .datagram) (apart st past I t le .ports)))
+          (le, rw (peer-stays _ (met st a) (a .datagram)) (arrives (st .slots) t x (from .0) R (from .1) (a .datagram) (apart st past I t le .ports)))
       go false e nr = absurd (nr number refl)
 
   -- the table and the history agree on whom it reaches
@@ -288,7 +294,7 @@ ipv6-dropped st a R p q r w t from nr = rw (from .2) (go (eqb number 0) (rw (fro
     found : Found
     found = find (inSlot (holdsPort t R)) (st .slots)
 
-    go : (b : Bool) → ((n : ℕ) → outcomeOf (pick b (accepted st (Peer call) (a .datagram)) (refuse number)) ≢ Refused n)
-        → outcomeOf (pick b (accepted st (Peer call) (a .datagram)) (refuse number)) ≡ Dropped
-    go true nr = rw (peer-stays call st (a .datagram)) (ipv6-out t (call .source) (from .1) (a .datagram) (has found) (atOr freshSlot found (st .slots)) refl)
+    go : (b : Bool) → ((n : ℕ) → outcomeOf (pick b (accepted (met st a) (Peer call) (a .datagram)) (refuse number)) ≢ Refused n)
+        → outcomeOf (pick b (accepted (met st a) (Peer call) (a .datagram)) (refuse number)) ≡ Dropped
+    go true nr = rw (peer-stays call (met st a) (a .datagram)) (ipv6-out t (call .source) (from .1) (a .datagram) (has found) (atOr freshSlot found (st .slots)) refl)
     go false nr = absurd (nr number refl)

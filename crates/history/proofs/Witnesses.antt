@@ -24,6 +24,7 @@ use Rattle.permission_rules.specs.Permissions.{permitPeer, permitAll, createPer
 use Rattle.data_rules.specs.Data.{permitted, relayed, relayFromPeer}
 use Rattle.decisions.specs.Client.{askedBy}
 use Rattle.interface.specs.declared.incoming.Call.{Call}
+use Rattle.denied.specs.Tree.{deniedBelow, denied, noneDenied}
 use Rattle.state.specs.State.{empty}
 use Rattle.interface.specs.Refusals.{clientDatagram, refusal}
 use Rattle.decisions.specs.Decisions.{portsHeld, decided}
@@ -57,7 +58,7 @@ unfolding allBelow both
 bind-bytes = all-below 256 bindBytes (lit< tt) refl
 
 abbrev asking : (call : Call) → CallFits call → (datagram : List ℕ) → Bytes datagram → Arrival
-asking call fits datagram bytes = record { call = call; datagram = datagram; reply = room; call-fits = fits; bytes = bytes }
+asking call fits datagram bytes = record { call = call; datagram = datagram; reply = room; denied = noneDenied; call-fits = fits; bytes = bytes }
 
 abbrev refreshing : Arrival
 refreshing =
@@ -99,7 +100,7 @@ pub record Witnesses : Type 0 where
       (allowed other (V4 0xc000_0296 ∷ []) 1910 ∷ gave other 49157 1600 600 ∷ gave caller 49157 1000 600 ∷ []) (coming 1700 (lit< tt)) other 40
 
 pub witnesses : Witnesses
-unfolding act refusal askedBy sorted wellFormed walk walkF stepAt nextAt num decided allocate respond repeats allocateCode requestCode check anyUnknown unknownTypes unknownNumbers attributesFrom isIntegrity isUnknown attributeKindOf find holds holdsUser holdsPort liveAllocation both sameFiveTuple sameTransportAddress sameAddress freshSlot numberValue firstOf count portFor firstFree portsHeld allocated allocateSuccess bytesOf transactionId accepted refreshCode renewed refreshed refresh refreshSuccess createPermission createPermissionCode ownCode permitAll permitPeer permit permissionEntry entry putAt permits freePermission livePermission any malformedPeer ipv6Peer peersFrom peersOf firstPeer addressAt v4At bareSuccess messageBytes bound channelBindCode channelBind numbered numberTaken peerTaken freeChannel channelEntry bind relayFromPeer permitted relayed leadsTo liveChannel isChannelNumber atOr dataIndication channelData messageIn checked fieldsOf sameBytes allocateFields refreshFields bareFields granted
+unfolding act refusal askedBy sorted wellFormed walk walkF stepAt nextAt num decided allocate respond repeats allocateCode requestCode check anyUnknown unknownTypes unknownNumbers attributesFrom isIntegrity isUnknown attributeKindOf find holds holdsUser holdsPort liveAllocation both sameFiveTuple sameTransportAddress sameAddress freshSlot numberValue firstOf count portFor firstFree portsHeld allocated allocateSuccess bytesOf transactionId accepted refreshCode renewed refreshed refresh refreshSuccess createPermission createPermissionCode ownCode permitAll permitPeer permit permissionEntry entry putAt permits freePermission livePermission any malformedPeer ipv6Peer peersFrom peersOf firstPeer addressAt v4At bareSuccess messageBytes bound channelBindCode channelBind numbered numberTaken peerTaken freeChannel channelEntry bind relayFromPeer permitted relayed leadsTo liveChannel isChannelNumber atOr dataIndication channelData messageIn checked fieldsOf sameBytes allocateFields refreshFields bareFields granted denied deniedBelow
 witnesses = record {
   by-refresh = record { counts-as = refl; goes = refl };
   refresh-over = refl;

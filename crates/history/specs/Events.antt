@@ -19,7 +19,7 @@ use Rattle.rules.specs.declared.answer.Outcome.the-variants.{Refused, Dropped, 
 use Rattle.interface.specs.declared.incoming.Call.{Call}
 use Rattle.interface.specs.declared.incoming.Call.the-variants.{Client, Peer}
 use Rattle.interface.specs.declared.incoming.FromClient.{FromClient}
-use Rattle.state.specs.State.{State}
+use Rattle.state.specs.State.{State, meeting}
 use Rattle.state.specs.Outcomes.{Act, outcomeOf, replyAfter, stateAfter}
 use Rattle.state.specs.Step.{act, Stepped}
 use Rattle.client_reader.specs.declared.Message.{Message}
@@ -45,11 +45,13 @@ CallFits (Client call) =
     × (call .start < 2 ^ 32)
 CallFits (Peer call) = TransportFits (call .source) × IdFits (call .id) × (call .port < 2 ^ 16) × (call .time < 2 ^ 64)
 
--- a client's or a peer's datagram with everything it brings: 'Each call brings its own datagram and buffer'
+-- a client's or a peer's datagram with everything it brings: 'Each call brings its own datagram and buffer'; and the tree of denied prefixes that it
+-- meets, which a text read between calls may have put there
 pub record Arrival : Type 0 where
   pub call : Call
   pub datagram : List ℕ
   pub reply : List ℕ
+  pub denied : List ℕ
   pub call-fits : CallFits call
   pub bytes : Bytes datagram
 
@@ -61,11 +63,15 @@ pub record Event : Type 0 where
   pub outcome : Outcome
   pub reply : List ℕ
 
+-- the relay as a call meets it
+abbrev pub met : State → Arrival → State
+met st a = meeting (a .denied) st
+
 -- an entry was called, and did what every entry promises
 abbrev pub Happened : (before : State) → Event → (after : State) → Type 0
-Happened before e after = Stepped before (e .arrival .call) (e .arrival .datagram) (e .outcome) after (e .arrival .reply) (e .reply)
+Happened before e after = Stepped (met before (e .arrival)) (e .arrival .call) (e .arrival .datagram) (e .outcome) after (e .arrival .reply) (e .reply)
 
--- a list of such calls: 'each gets the relay as the last one left it'
+-- a list of such calls: 'each gets the relay as the last one left it', but for the tree
 abbrev pub Lived : (first : State) → List Event → (last : State) → Type 0
 Lived first [] last = first ≡ last
 Lived first (e ∷ rest) last = (after : State) × Happened first e after × Lived after rest last
@@ -118,7 +124,7 @@ counted past (e ∷ rest) = counted (counts past e ∷ past) rest
 
 -- what a call does to the relay in that state
 abbrev pub acts : State → Arrival → Act
-acts st a = act st (a .call) (a .datagram) (length (a .reply))
+acts st a = act (met st a) (a .call) (a .datagram) (length (a .reply))
 
 -- its outcome, its reply buffer afterwards, and the relay as it leaves it
 abbrev pub outcome : State → Arrival → Outcome
@@ -128,7 +134,7 @@ abbrev pub replied : State → Arrival → List ℕ
 replied st a = replyAfter (a .reply) (acts st a)
 
 abbrev pub next : State → Arrival → State
-next st a = stateAfter st (acts st a)
+next st a = stateAfter (met st a) (acts st a)
 
 abbrev pub run : State → List Arrival → State
 run st [] = st

@@ -1,6 +1,7 @@
 pub mod Counted
 pub mod Events
 pub mod Statement
+pub mod Denied
 pub mod Fits
 pub mod ReadBack
 pub mod Lines

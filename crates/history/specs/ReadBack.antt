@@ -23,6 +23,7 @@ use Rattle.decisions.specs.Client.{askedBy}
 use Rattle.rules.specs.Values.{ipv4Of}
 use Rattle.allocation_rules.specs.Allocations.{repeats, allocateCode, secondsLeft, refreshCode}
 use Rattle.permission_rules.specs.Permissions.{createPermissionCode, channelBindCode}
+use Rattle.permission_rules.specs.Denials.{anyDenied, firstDenied}
 use Rattle.interface.specs.declared.incoming.Call.{Call}
 use Rattle.interface.specs.declared.incoming.Call.the-variants.{Client, Peer}
 use Rattle.interface.specs.declared.incoming.FromClient.{FromClient}
@@ -49,14 +50,16 @@ portPlace call slots = find (inSlot (holdsPort (call .time) (call .port))) slots
 
 -- ---- Responses
 
--- the code of the first check that applies, by the slots before the call; 0 where none does
-abbrev pub codeFor : FromClient → List ℕ → List Slot → Method → ℕ
-codeFor call s before Allocate =
+-- the code of the first check that applies, by the slots before the call and the tree of denied prefixes; 0 where none does
+abbrev pub codeFor : (denied : List ℕ) → FromClient → List ℕ → List Slot → Method → ℕ
+codeFor denied call s before Allocate =
     let place = ownPlace call before in
     allocateCode (asRules call) s (repeats (asRules call) s (has place) (slotIn before place)) (roomFor call before)
-codeFor call s before Refresh = let place = ownPlace call before in refreshCode (asRules call) s (has place) (slotIn before place)
-codeFor call s before CreatePermission = let place = ownPlace call before in createPermissionCode (asRules call) s (has place) (slotIn before place)
-codeFor call s before ChannelBind = let place = ownPlace call before in channelBindCode (asRules call) s (has place) (slotIn before place)
+codeFor denied call s before Refresh = let place = ownPlace call before in refreshCode (asRules call) s (has place) (slotIn before place)
+codeFor denied call s before CreatePermission =
+    let place = ownPlace call before in createPermissionCode (asRules call) s (anyDenied denied s) (has place) (slotIn before place)
+codeFor denied call s before ChannelBind =
+    let place = ownPlace call before in channelBindCode (asRules call) s (firstDenied denied s) (has place) (slotIn before place)
 
 -- 'Reply: XOR-RELAYED-ADDRESS 0x0016, LIFETIME, XOR-MAPPED-ADDRESS 0x0020 (the client).', 'Reply: LIFETIME granted.', 'a bare 20-byte header':
 -- the port is that of the slot after the call, and LIFETIME the seconds until its expiry, 0 where the slot is fresh. An Allocate's slot is the
@@ -79,9 +82,9 @@ unknownFor method s =
 abbrev pub errorFor : Method → List ℕ → ℕ → ReadMessage
 errorFor method s code = pick (eqb code 420) (unknownFor method s) (plain (Error method (transactionId s) code))
 
-abbrev pub responseFor : FromClient → List ℕ → (before after : List Slot) → Method → ReadMessage
-responseFor call s before after method =
-    let code = codeFor call s before method in
+abbrev pub responseFor : (denied : List ℕ) → FromClient → List ℕ → (before after : List Slot) → Method → ReadMessage
+responseFor denied call s before after method =
+    let code = codeFor denied call s before method in
     pick (eqb code 0) (plain (successFor call s before after method)) (errorFor method s code)
 
 -- ---- Data
@@ -98,19 +101,19 @@ relayedFor call len slot =
 -- ---- Every call
 
 -- what a client's datagram is answered with, by what it asks: a Send or ChannelData is not answered
-abbrev pub answerFor : FromClient → List ℕ → (before after : List Slot) → Asked → ReadMessage
-answerFor call s before after Asked.Allocate = responseFor call s before after Allocate
-answerFor call s before after Asked.Refresh = responseFor call s before after Refresh
-answerFor call s before after Asked.CreatePermission = responseFor call s before after CreatePermission
-answerFor call s before after Asked.ChannelBind = responseFor call s before after ChannelBind
-answerFor call s before after Asked.Send = nothing
-answerFor call s before after Asked.ChannelData = nothing
-answerFor call s before after Asked.Nothing = nothing
+abbrev pub answerFor : (denied : List ℕ) → FromClient → List ℕ → (before after : List Slot) → Asked → ReadMessage
+answerFor denied call s before after Asked.Allocate = responseFor denied call s before after Allocate
+answerFor denied call s before after Asked.Refresh = responseFor denied call s before after Refresh
+answerFor denied call s before after Asked.CreatePermission = responseFor denied call s before after CreatePermission
+answerFor denied call s before after Asked.ChannelBind = responseFor denied call s before after ChannelBind
+answerFor denied call s before after Asked.Send = nothing
+answerFor denied call s before after Asked.ChannelData = nothing
+answerFor denied call s before after Asked.Nothing = nothing
 
 -- the fields that go into what is sent to a client
-abbrev pub fieldsFor : Call → List ℕ → (before after : List Slot) → ReadMessage
-fieldsFor (Client call) s before after = answerFor call s before after (askedBy s)
-fieldsFor (Peer call) s before after = plain (relayedFor call (length s) (slotIn after (portPlace call before)))
+abbrev pub fieldsFor : (denied : List ℕ) → Call → List ℕ → (before after : List Slot) → ReadMessage
+fieldsFor denied (Client call) s before after = answerFor denied call s before after (askedBy s)
+fieldsFor denied (Peer call) s before after = plain (relayedFor call (length s) (slotIn after (portPlace call before)))
 
 -- and the data: a peer's datagram
 abbrev pub dataFor : Call → List ℕ → List ℕ
@@ -134,4 +137,4 @@ abbrev pub ReadBack : Type 0
 ReadBack =
     (before after : State) (a : Arrival) (reply′ : List ℕ) (C : FiveTuple) (n : ℕ)
     → StateFits before → Stepped before (a .call) (a .datagram) (ToClient C n) after (a .reply) reply′
-    → ReadAs (fieldsFor (a .call) (a .datagram) (before .slots) (after .slots)) (dataFor (a .call) (a .datagram)) (take n reply′)
+    → ReadAs (fieldsFor (before .bookkeeping .denied) (a .call) (a .datagram) (before .slots) (after .slots)) (dataFor (a .call) (a .datagram)) (take n reply′)

@@ -1,2 +1,3 @@
+pub mod Denials
 pub mod Inner
 pub mod Permissions

@@ -58,6 +58,7 @@ fn bind_both(time: u64, number: u16, peer: TransportAddress, slot: Slot) -> Boun
 fn channel_bind_code(
     s: &[u8],
     call: ClientCall,
+    denied: bool,
     own: bool,
     slot: Slot,
     number: u16,
@@ -65,7 +66,7 @@ fn channel_bind_code(
     made: Bound,
 ) -> u16
     requires { ⌜ (20 ≤ length (now s)) × (number ≡ numberGiven (channelNumber (now s))) × (value ≡ firstPeer (now s)) × Binding (call .time) number (value .peer) slot made ⌝ }
-    ensures { λ r. ⌜ (r ≡ channelBindCode call (now (s .entry)) own slot) × (r ≤ 699) ⌝ }
+    ensures { λ r. ⌜ (r ≡ channelBindCode call (now (s .entry)) denied own slot) × (r ≤ 699) ⌝ }
 {
     let peer = value.peer;
     let address = peer.address;
@@ -79,7 +80,7 @@ fn channel_bind_code(
     let ranges = check(
         !is_channel_number(number),
         400,
-        check(is_ipv6(address), 443, live),
+        check(is_ipv6(address), 443, check(denied, 403, live)),
     );
     own_code(
         s,
@@ -94,15 +95,22 @@ fn channel_bind_code(
     )
 }
 
-pub fn channel_bind(s: &[u8], reply: &mut [u8], call: ClientCall, own: bool, was: Slot) -> Answer
+pub fn channel_bind(
+    s: &[u8],
+    reply: &mut [u8],
+    call: ClientCall,
+    denied: bool,
+    own: bool,
+    was: Slot,
+) -> Answer
     requires { ⌜ (20 ≤ length (now s)) × (1536 ≤ length (now reply)) × (call .time ≤ 2 ^ 40) ⌝ }
-    ensures { λ r. ⌜ Answers (channelBind call (now (s .entry)) own was) was (now (reply .entry)) (now (reply .exit)) r ⌝ }
+    ensures { λ r. ⌜ Answers (channelBind call (now (s .entry)) denied own was) was (now (reply .entry)) (now (reply .exit)) r ⌝ }
 {
     let number = number_given(channel_number(s)) as u16;
     let value = first_peer(s);
     let peer = value.peer;
     let made = bind_both(call.time, number, peer, was);
-    let code = channel_bind_code(s, call, own, was, number, value, made);
+    let code = channel_bind_code(s, call, denied, own, was, number, value, made);
     let five_tuple = call.five_tuple;
     if code != 0 {
         return respond_error(s, reply, five_tuple, Method::ChannelBind, code, was);

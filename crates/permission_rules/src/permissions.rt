@@ -91,14 +91,25 @@ fn permit_all(s: &[u8], time: u64, slot: Slot) -> Placed
     }
 }
 
-fn create_permission_code(s: &[u8], call: ClientCall, own: bool, slot: Slot, room: bool) -> u16
+fn create_permission_code(
+    s: &[u8],
+    call: ClientCall,
+    denied: bool,
+    own: bool,
+    slot: Slot,
+    room: bool,
+) -> u16
     requires { ⌜ (20 ≤ length (now s)) × (room ≡ permitAll (call .time) (peers (now s)) slot slot .ok) ⌝ }
-    ensures { λ r. ⌜ (r ≡ createPermissionCode call (now (s .entry)) own slot) × (r ≤ 699) ⌝ }
+    ensures { λ r. ⌜ (r ≡ createPermissionCode call (now (s .entry)) denied own slot) × (r ≤ 699) ⌝ }
 {
     let rest = check(
         any_faulty(s, PeerFault::Malformed),
         400,
-        check(any_faulty(s, PeerFault::Ipv6), 443, check(!room, 508, 0)),
+        check(
+            any_faulty(s, PeerFault::Ipv6),
+            443,
+            check(denied, 403, check(!room, 508, 0)),
+        ),
     );
     own_code(s, call, own, slot, check(no_peer(s), 400, rest))
 }
@@ -107,14 +118,15 @@ pub fn create_permission(
     s: &[u8],
     reply: &mut [u8],
     call: ClientCall,
+    denied: bool,
     own: bool,
     was: Slot,
 ) -> Answer
     requires { ⌜ (20 ≤ length (now s)) × (1536 ≤ length (now reply)) × (call .time ≤ 2 ^ 40) ⌝ }
-    ensures { λ r. ⌜ Answers (createPermission call (now (s .entry)) own was) was (now (reply .entry)) (now (reply .exit)) r ⌝ }
+    ensures { λ r. ⌜ Answers (createPermission call (now (s .entry)) denied own was) was (now (reply .entry)) (now (reply .exit)) r ⌝ }
 {
     let placed = permit_all(s, call.time, was);
-    let code = create_permission_code(s, call, own, was, placed.ok);
+    let code = create_permission_code(s, call, denied, own, was, placed.ok);
     let five_tuple = call.five_tuple;
     if code != 0 {
         return respond_error(s, reply, five_tuple, Method::CreatePermission, code, was);

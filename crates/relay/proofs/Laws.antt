@@ -1,5 +1,5 @@
 -- The laws that the relay's proofs cite.
-use Prim.Native.Nat.{ℕ, suc, _-_, _<_, _≤_, _^_}
+use Prim.Native.Nat.{ℕ, suc, _<_, _≤_, _^_}
 use mathlib.Core.Path.{_≡_, refl, sym, ap, subst, _∙_}
 use mathlib.Core.Bool.{Bool, true, false, not, false≢true}
 use mathlib.Core.List.{List}
@@ -29,15 +29,16 @@ use Rattle.rules.proofs.Laws.{kept-not-written}
 use Rattle.interface.specs.declared.incoming.Call.{Call}
 use Rattle.interface.specs.declared.incoming.Call.the-variants.{Client, Peer}
 use Rattle.interface.specs.declared.incoming.FromClient.{FromClient}
+use Rattle.decisions.specs.declared.Asking.{Asking}
 use Rattle.decisions.specs.declared.Seen.{Seen}
 use Rattle.state.specs.declared.Bookkeeping.{Bookkeeping}
-use Rattle.state.specs.State.{state, freshBookkeeping, atClock, atTime, withSlots}
+use Rattle.state.specs.State.{state, atClock, atTime, withSlots}
 use Rattle.state.specs.Outcomes.{Does}
 use Rattle.interface.specs.Refusals.{timeOf, lengths, refusal}
-use Rattle.decisions.specs.Decisions.{onAsked, decided}
+use Rattle.decisions.specs.Decisions.{namesDenied, onAsked, decided}
 use Rattle.state.specs.Step.{done, accepted}
-use Rattle.decisions.specs.Inner.{Ready, askedFor, wantedBy, saw, placeFor, placeIn, unwritten}
-use Rattle.relay.specs.Inner.{Saw, WroteBack, Answered}
+use Rattle.decisions.specs.Inner.{askingOf, Ready, askedFor, wantedBy, saw, placeFor, placeIn, unwritten}
+use Rattle.relay.specs.Inner.{Begun, Saw, LookedFor, WroteBack, Answered, DoesAccepted}
 use Rattle.decisions.proofs.Laws.{decided-writes}
 use Rattle.state.proofs.Laws.{kept-done, written-done, does}
 
@@ -81,40 +82,43 @@ not-refused clock slots s reply (Peer c) e =
     }
 
 -- the look that a call asks for is one over its table
-pub looked-for : (call : Call) (slots : List Slot) (s : List ℕ) {asked : Asked} {wanted : Wanted} {survey : Survey} {seen : Seen} → asked ≡ askedFor call s → wanted ≡ wantedBy call asked
-    → Looked slots wanted survey → seen ≡ saw asked survey → Saw slots call s seen
-looked-for call slots s {asked} {wanted} {survey} {seen} a w l e =
-    rw e (record { asked = a; looked = subst (λ (x : Wanted). Looked slots x survey) w l })
+pub looked-for : (call : Call) (slots : List Slot) (asking : Asking) {wanted : Wanted} {survey : Survey} {seen : Seen} → wanted ≡ wantedBy call (asking .asked)
+    → Looked slots wanted survey → seen ≡ saw asking survey → LookedFor slots call asking seen
+looked-for call slots asking {wanted} {survey} {seen} w l e =
+    rw e (record { asked-is = refl; denied-is = refl; looked = subst (λ (x : Wanted). Looked slots x survey) w l })
+
+pub saw-asked : {slots : List Slot} {call : Call} {s : List ℕ} {asking : Asking} {seen : Seen} → asking .asked ≡ askedFor call s → LookedFor slots call asking seen → Saw slots call s seen
+saw-asked a l = record { asked = l .asked-is ∙ a; looked = l .looked }
 
 -- the place of the slot that is written is the one that was decided about; only a request writes one
-asked-place : (call : FromClient) (s : List ℕ) (slots : List Slot) (asked : Asked) {survey : Survey} → Looked slots (wantedBy (Client call) asked) survey
-    → (slot : Slot) (out : Out) → onAsked call s slots asked .change ≡ write slot out → placeFor asked survey ≡ onAsked call s slots asked .place
+asked-place : (denied : Bool) (call : FromClient) (s : List ℕ) (slots : List Slot) (asked : Asked) {survey : Survey} → Looked slots (wantedBy (Client call) asked) survey
+    → (slot : Slot) (out : Out) → onAsked denied call s slots asked .change ≡ write slot out → placeFor asked survey ≡ onAsked denied call s slots asked .place
 unfolding keyed
-asked-place call s slots Asked.Allocate l slot out e = l .room refl .free
-asked-place call s slots Asked.Refresh l slot out e = l .own
-asked-place call s slots Asked.CreatePermission l slot out e = l .own
-asked-place call s slots Asked.ChannelBind l slot out e = l .own
-asked-place call s slots Asked.Send l slot out e = kept-not-written e
-asked-place call s slots Asked.ChannelData l slot out e = kept-not-written e
-asked-place call s slots Asked.Nothing l slot out e = kept-not-written e
+asked-place denied call s slots Asked.Allocate l slot out e = l .room refl .free
+asked-place denied call s slots Asked.Refresh l slot out e = l .own
+asked-place denied call s slots Asked.CreatePermission l slot out e = l .own
+asked-place denied call s slots Asked.ChannelBind l slot out e = l .own
+asked-place denied call s slots Asked.Send l slot out e = kept-not-written e
+asked-place denied call s slots Asked.ChannelData l slot out e = kept-not-written e
+asked-place denied call s slots Asked.Nothing l slot out e = kept-not-written e
 
-places : (call : Call) (s : List ℕ) (slots : List Slot) {asked : Asked} {survey : Survey} → asked ≡ askedFor call s → Looked slots (wantedBy call asked) survey
-    → (slot : Slot) (out : Out) → decided call s slots .change ≡ write slot out → placeFor asked survey ≡ decided call s slots .place
+places : (denied : Bool) (call : Call) (s : List ℕ) (slots : List Slot) {asked : Asked} {survey : Survey} → asked ≡ askedFor call s → Looked slots (wantedBy call asked) survey
+    → (slot : Slot) (out : Out) → decided denied call s slots .change ≡ write slot out → placeFor asked survey ≡ decided denied call s slots .place
 unfolding decided
-places (Client call) s slots {asked} {survey} a l slot out e =
-    subst (λ (x : Asked). placeFor x survey ≡ onAsked call s slots (askedBy s) .place) (sym a)
-    (asked-place call s slots (askedBy s) (subst (λ (x : Asked). Looked slots (wantedBy (Client call) x) survey) a l) slot out e)
-places (Peer call) s slots a l slot out e = kept-not-written e
+places denied (Client call) s slots {asked} {survey} a l slot out e =
+    subst (λ (x : Asked). placeFor x survey ≡ onAsked denied call s slots (askedBy s) .place) (sym a)
+    (asked-place denied call s slots (askedBy s) (subst (λ (x : Asked). Looked slots (wantedBy (Client call) x) survey) a l) slot out e)
+places denied (Peer call) s slots a l slot out e = kept-not-written e
 
 -- the slot that is decided about lies in the table
-decided-within : (call : Call) (s : List ℕ) (slots : List Slot) → Within (decided call s slots .place) (length slots)
+decided-within : (denied : Bool) (call : Call) (s : List ℕ) (slots : List Slot) → Within (decided denied call s slots .place) (length slots)
 unfolding decided
-decided-within call s slots = go call
+decided-within denied call s slots = go call
   where
     own : (c : FromClient) → Within (find (inSlot (holds (c .time) (c .«five_tuple»))) slots) (length slots)
     own c = found-within (inSlot (holds (c .time) (c .«five_tuple»))) slots _ refl
 
-    asks : (c : FromClient) (x : Asked) → Within (onAsked c s slots x .place) (length slots)
+    asks : (c : FromClient) (x : Asked) → Within (onAsked denied c s slots x .place) (length slots)
     asks c Asked.Allocate = found-within (inSlot (lapsed (c .time))) slots _ refl
     asks c Asked.Refresh = own c
     asks c Asked.CreatePermission = own c
@@ -123,7 +127,7 @@ decided-within call s slots = go call
     asks c Asked.ChannelData = own c
     asks c Asked.Nothing = tt
 
-    go : (x : Call) → Within (decided x s slots .place) (length slots)
+    go : (x : Call) → Within (decided denied x s slots .place) (length slots)
     go (Client c) = asks c (askedBy s)
     go (Peer c) = found-within (inSlot (holdsPort (c .time) (c .port))) slots _ refl
 
@@ -141,47 +145,49 @@ writing : (change : Change) {b : Bool} → b ≡ writes change → not b ≡ fal
 writing (keep out) e n = absurd (false≢true (sym n ∙ ap not e))
 writing (write slot out) e n = record { slot = slot; out = out; is = refl }
 
-module _ (slots : List Slot) (kept : Bookkeeping) (call : Call) (s reply : List ℕ) (asked : Asked) {reply′ : List ℕ} {survey : Survey} {own : Slot} {answer : Answer}
-    (looked : Looked slots (wantedBy call asked) survey) (w : Answers (decided call s slots .change) own reply reply′ answer) where
+module _ (slots : List Slot) (denied : Bool) (call : Call) (s reply : List ℕ) (asked : Asked) {reply′ : List ℕ} {survey : Survey} {own : Slot} {answer : Answer}
+    (looked : Looked slots (wantedBy call asked) survey) (w : Answers (decided denied call s slots .change) own reply reply′ answer) where
   -- where nothing is written
-  kept-step : not (answer .writes) ≡ true → Does (accepted (state slots kept) call s) (state slots kept) (answer .outcome) (state slots (atClock (timeOf call) kept)) reply reply′
+  kept-step : (kept : Bookkeeping) → namesDenied (kept .denied) call s ≡ denied → not (answer .writes) ≡ true → Does (accepted (state slots kept) call s) (state slots kept) (answer .outcome) (state slots (atClock (timeOf call) kept)) reply reply′
   unfolding accepted
-  kept-step n =
-      let change = decided call s slots .change in
+  kept-step kept t n =
+      let change = decided denied call s slots .change in
       let out = outOf change in
       let q : change ≡ keep out = keeps-out change (w .writes) n in
-      does (atTime (timeOf call) (state slots kept)) out
-      (ap (done (atTime (timeOf call) (state slots kept)) (decided call s slots .place)) q ∙ kept-done _ (decided call s slots .place) out)
-      (w .gives .outcome-is) refl (w .gives .reply-is)
+      rw t
+      (does (atTime (timeOf call) (state slots kept)) out
+      (ap (done (atTime (timeOf call) (state slots kept)) (decided denied call s slots .place)) q ∙ kept-done _ (decided denied call s slots .place) out)
+      (w .gives .outcome-is) refl (w .gives .reply-is))
 
   -- where a slot is written
   module _ (a : asked ≡ askedFor call s) (y : not (answer .writes) ≡ false) where
-    what : Writing (decided call s slots .change)
-    what = writing (decided call s slots .change) (w .writes) y
+    what : Writing (decided denied call s slots .change)
+    what = writing (decided denied call s slots .change) (w .writes) y
 
-    placed : placeFor asked survey ≡ decided call s slots .place
-    placed = places call s slots a looked (what .slot) (what .out) (what .is)
+    placed : placeFor asked survey ≡ decided denied call s slots .place
+    placed = places denied call s slots a looked (what .slot) (what .out) (what .is)
 
     there : has (placeFor asked survey) ≡ true
-    there = ap has placed ∙ decided-writes call s slots (what .slot) (what .out) (what .is)
+    there = ap has placed ∙ decided-writes denied call s slots (what .slot) (what .out) (what .is)
 
     put-within : {k : ℕ} → k ≡ placeOf (placeFor asked survey) → k < length slots
     put-within {k} p =
-        place-there slots (placeFor asked survey) refl there p (subst (λ (x : Found). Within x (length slots)) (sym placed) (decided-within call s slots))
+        place-there slots (placeFor asked survey) refl there p (subst (λ (x : Found). Within x (length slots)) (sym placed) (decided-within denied call s slots))
 
-    written-step : {k : ℕ} → k ≡ placeOf (placeFor asked survey)
+    written-step : (kept : Bookkeeping) → namesDenied (kept .denied) call s ≡ denied → {k : ℕ} → k ≡ placeOf (placeFor asked survey)
         → Does (accepted (state slots kept) call s) (state slots kept) (answer .outcome) (state (set slots k (answer .slot)) (atClock (timeOf call) kept)) reply reply′
     unfolding accepted
-    written-step {k} p =
+    written-step kept t {k} p =
         let st = atTime (timeOf call) (state slots kept) in
         let same : answer .slot ≡ what .slot = w .slot ∙ ap (slotAfter own) (what .is) in
-        does (withSlots (set slots k (what .slot)) st) (what .out)
-        (ap (λ (x : Change). done st (decided call s slots .place) x) (what .is)
+        rw t
+        (does (withSlots (set slots k (what .slot)) st) (what .out)
+        (ap (λ (x : Change). done st (decided denied call s slots .place) x) (what .is)
         ∙ ap (λ (x : Found). done st x (write (what .slot) (what .out))) (sym placed)
         ∙ written-done st (placeFor asked survey) (what .slot) (what .out) there p)
         (w .gives .outcome-is ∙ ap (λ (x : Change). outcomeOf (outOf x)) (what .is))
         (ap (λ (x : Slot). state (set slots k x) (atClock (timeOf call) kept)) same)
-        (w .gives .reply-is ∙ ap (λ (x : Change). replyAfter reply (outOf x)) (what .is))
+        (w .gives .reply-is ∙ ap (λ (x : Change). replyAfter reply (outOf x)) (what .is)))
 
 -- the slot that was found
 pub seen-within : (slots : List Slot) {call : Call} {s : List ℕ} {seen : Seen} → Saw slots call s seen → Within (seen .survey .own) (length slots)
@@ -189,17 +195,17 @@ seen-within slots w = own-within slots (w .looked)
 
 -- the slot that is written lies in the table, and it is written back
 module _ (slots : List Slot) (call : Call) (s reply : List ℕ) (seen : Seen) {reply′ : List ℕ} {own : Slot} {answer : Answer} (sees : Saw slots call s seen)
-    (w : Answers (decided call s slots .change) own reply reply′ answer) where
+    (w : Answers (decided (seen .denied) call s slots .change) own reply reply′ answer) where
   pub written-within : answer .writes ≡ true → placeIn seen < length slots
-  written-within y = put-within slots freshBookkeeping call s reply (seen .asked) (sees .looked) w (sees .asked) (ap not y) refl
+  written-within y = put-within slots (seen .denied) call s reply (seen .asked) (sees .looked) w (sees .asked) (ap not y) refl
 
-  pub answered : {slots′ : List Slot} {outcome : Outcome} → WroteBack seen answer outcome slots slots′ → Answered slots call s outcome slots′ reply reply′
-  answered {slots′} {outcome} b = record { does = λ kept. rw (b .slots-are, b .outcome-is) (go kept (answer .writes) refl) }
+  pub answered : {slots′ : List Slot} {outcome : Outcome} → WroteBack seen answer outcome slots slots′ → Answered (seen .denied) slots call s outcome slots′ reply reply′
+  answered {slots′} {outcome} b = record { does = λ kept t. rw (b .slots-are, b .outcome-is) (go kept t (answer .writes) refl) }
     where
-      go : (kept : Bookkeeping) (b : Bool) → answer .writes ≡ b
+      go : (kept : Bookkeeping) → namesDenied (kept .denied) call s ≡ seen .denied → (b : Bool) → answer .writes ≡ b
           → Does (accepted (state slots kept) call s) (state slots kept) (answer .outcome) (state (pick b (set slots (placeIn seen) (answer .slot)) slots) (atClock (timeOf call) kept)) reply reply′
-      go kept true y = written-step slots kept call s reply (seen .asked) (sees .looked) w (sees .asked) (ap not y) refl
-      go kept false n = kept-step slots kept call s reply (seen .asked) (sees .looked) w (ap not n)
+      go kept t true y = written-step slots (seen .denied) call s reply (seen .asked) (sees .looked) w (sees .asked) (ap not y) kept t refl
+      go kept t false n = kept-step slots (seen .denied) call s reply (seen .asked) (sees .looked) w kept t (ap not n)
 
 -- a slot is written back, or none
 module _ (slots : List Slot) (seen : Seen) (answer : Answer) {none : Bool} {outcome : Outcome} (e : none ≡ not (answer .writes)) (o : outcome ≡ answer .outcome) where
@@ -217,8 +223,14 @@ module _ (slots : List Slot) (seen : Seen) (answer : Answer) {none : Bool} {outc
 pub data-back : (slots : List Slot) (seen : Seen) {own : Slot} {outcome : Outcome} → WroteBack seen (unwritten outcome own) outcome slots slots
 data-back slots seen = record { outcome-is = refl; slots-are = refl }
 
--- a call that was answered, with the clock as it was set
-pub clock-set : {slots : List Slot} {kept kept′ : Bookkeeping} {call : Call} {s : List ℕ} {outcome : Outcome} {slots′ : List Slot} {reply reply′ : List ℕ} → kept′ ≡ atClock (timeOf call) kept
-    → Answered slots call s outcome slots′ reply reply′ → Does (accepted (state slots kept) call s) (state slots kept) outcome (state slots′ kept′) reply reply′
-clock-set {slots} {kept} {kept′} {call} {s} {outcome} {slots′} {reply} {reply′} e w =
-    subst (λ (b : Bookkeeping). Does (accepted (state slots kept) call s) (state slots kept) outcome (state slots′ b) reply reply′) (sym e) (w .does kept)
+-- the clock was set, and then it was read what the call asks
+pub begun : {kept kept′ : Bookkeeping} {call : Call} {s : List ℕ} {time : ℕ} {asking : Asking} → time ≡ timeOf call → kept′ ≡ atClock time kept → asking ≡ askingOf (kept′ .denied) call s
+    → Begun kept call s asking kept′
+begun {kept} {kept′} {call} {s} t k a = record { asking-is = a ∙ ap (λ (b : Bookkeeping). askingOf (b .denied) call s) k; kept-is = k ∙ ap (λ (n : ℕ). atClock n kept) t }
+
+-- a call that was answered by what is asked, with the clock as it was set
+pub begun-answered : {asking : Asking} {slots : List Slot} {kept kept′ : Bookkeeping} {call : Call} {s : List ℕ} {outcome : Outcome} {slots′ : List Slot} {reply reply′ : List ℕ} → Begun kept call s asking kept′
+    → Answered (asking .denied) slots call s outcome slots′ reply reply′
+    → DoesAccepted slots kept call s outcome slots′ kept′ reply reply′
+begun-answered {asking} {slots} {kept} {kept′} {call} {s} {outcome} {slots′} {reply} {reply′} b w =
+    subst (λ (k : Bookkeeping). DoesAccepted slots kept call s outcome slots′ k reply reply′) (sym (b .kept-is)) (w .does kept (sym (ap (λ (x : Asking). x .denied) (b .asking-is))))

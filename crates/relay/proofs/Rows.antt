@@ -27,8 +27,8 @@ use Rattle.interface.proofs.refusals.Lengths as Lengths-t
 use Rattle.interface.proofs.refusals.Lengths.Laws as Lengths-l
 use Rattle.decisions.proofs.Seen as Seen-t
 use Rattle.decisions.proofs.Seen.Laws as Seen-l
-use Rattle.decisions.proofs.client.Asked as Asked-t
-use Rattle.decisions.proofs.client.Asked.Laws as Asked-l
+use Rattle.decisions.proofs.Asking as Asking-t
+use Rattle.decisions.proofs.Asking.Laws as Asking-l
 use Rattle.relay.specs.declared.Held.{Held}
 use Rattle.relay.proofs.Held as Held-t
 use Rattle.relay.proofs.Held.Laws as Held-l
@@ -45,11 +45,11 @@ lengths-row = struct-row Lengths-t.the-type Lengths-l.the-laws Lengths-l.the-pla
 pub lengths-typed : {M : Type 1} (𝓤 : URA M) (H : Heap 𝓤) (A : Atoms 𝓤) → Typed 𝓤 H A lengths-row Lengths-l.mir
 lengths-typed 𝓤 H A W x is = lengths-row .lawful 𝓤 H A W .typed x _ is .0
 
-abbrev pub asked-row : Row Asked-t.the-row
-asked-row = enum-row Asked-t.the-type Asked-l.the-laws Asked-l.the-plain tt
+abbrev pub asking-row : Row Asking-t.the-row
+asking-row = struct-row Asking-t.the-type Asking-l.the-laws Asking-l.the-plain
 
-pub asked-typed : {M : Type 1} (𝓤 : URA M) (H : Heap 𝓤) (A : Atoms 𝓤) → Typed 𝓤 H A asked-row Asked-l.mir
-asked-typed 𝓤 H A W x is = asked-row .lawful 𝓤 H A W .typed x _ is .0
+pub asking-typed : {M : Type 1} (𝓤 : URA M) (H : Heap 𝓤) (A : Atoms 𝓤) → Typed 𝓤 H A asking-row Asking-l.mir
+asking-typed 𝓤 H A W x is = asking-row .lawful 𝓤 H A W .typed x _ is .0
 
 abbrev pub seen-row : Row Seen-t.the-row
 seen-row = struct-row Seen-t.the-type Seen-l.the-laws Seen-l.the-plain

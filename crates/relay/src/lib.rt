@@ -1,10 +1,11 @@
 // The relay's public entries, over the sixty-four slots lent as a slice of records, what the relay keeps beside them as one lent struct,
 // and the datagram and the reply as lent bytes. Every decision is by value, in the crates below; here the slots are looked over, one is
 // read, and it is written back where it changed.
+use decisions::Asking;
 use decisions::Seen;
 use decisions::answer_call;
 use decisions::answer_unfound;
-use decisions::asked_for;
+use decisions::asking_of;
 use decisions::finds_none;
 use decisions::is_data;
 use decisions::outcome_of;
@@ -35,17 +36,31 @@ ghost use Rattle.slot.specs.Search.{atOr, has};
 ghost use Rattle.slot.specs.Slot.{freshSlot};
 ghost use Rattle.state.specs.State.{state};
 ghost use Rattle.state.specs.Step.{Stepped};
-ghost use Rattle.decisions.specs.Inner.{Ready, UserFits, isData, placeIn};
-ghost use Rattle.relay.specs.Inner.{Saw, WroteBack, Answered};
+ghost use Rattle.decisions.specs.Inner.{Ready, UserFits, askedFor, askingOf, isData, placeIn};
+ghost use Rattle.relay.specs.Inner.{Begun, Saw, LookedFor, WroteBack, Answered, DoesAccepted};
 
-// What is asked, and one look over the slots.
-fn look_for(slots: &[Slot], datagram: &[u8], call: Call) -> Seen
-    requires { ⌜ UserFits call ⌝ }
-    ensures { λ r. ⌜ Saw (now (slots .entry)) call (now (datagram .entry)) r ⌝ }
+// What is asked, by the tree where it lies: a lookup touches its path alone.
+fn asking_in(bookkeeping: &Bookkeeping, datagram: &[u8], call: Call) -> Asking
+    ensures { λ r. ⌜ r ≡ askingOf (now (bookkeeping .entry) .denied) call (now (datagram .entry)) ⌝ }
 {
-    let asked = asked_for(datagram, call);
-    let survey = look(slots, wanted_by(call, asked));
-    with_survey(asked, survey)
+    asking_of(&bookkeeping.denied, datagram, call)
+}
+
+// A call that is not refused begins: the clock is set, and what it asks is read.
+fn begin_call(bookkeeping: &mut Bookkeeping, datagram: &[u8], call: Call) -> Asking
+    ensures { λ r. ⌜ Begun (now (bookkeeping .entry)) call (now (datagram .entry)) r (now (bookkeeping .exit)) ⌝ }
+{
+    set_clock(bookkeeping, time_of(call));
+    asking_in(bookkeeping, datagram, call)
+}
+
+// One look over the slots, for what is asked.
+fn look_for(slots: &[Slot], call: Call, asking: Asking) -> Seen
+    requires { ⌜ UserFits call ⌝ }
+    ensures { λ r. ⌜ LookedFor (now (slots .entry)) call asking r ⌝ }
+{
+    let survey = look(slots, wanted_by(call, asking));
+    with_survey(asking, survey)
 }
 
 // The slot is written back where it changed.
@@ -70,7 +85,7 @@ fn answer_request(
     reply: &mut [u8],
 ) -> Outcome
     requires { ⌜ (Ready call (now datagram) (now reply) × Saw (now slots) call (now datagram) seen) × ((own ≡ atOr freshSlot (seen .survey .own) (now slots)) × (isData (seen .asked) ≡ false)) ⌝ }
-    ensures { λ r. ⌜ Answered (now (slots .entry)) call (now (datagram .entry)) r (now (slots .exit)) (now (reply .entry)) (now (reply .exit)) ⌝ }
+    ensures { λ r. ⌜ Answered (seen .denied) (now (slots .entry)) call (now (datagram .entry)) r (now (slots .exit)) (now (reply .entry)) (now (reply .exit)) ⌝ }
 {
     let answer = answer_call(datagram, reply, call, seen, own);
     write_found(slots, seen, answer)
@@ -86,7 +101,7 @@ fn answer_found(
     reply: &mut [u8],
 ) -> Outcome
     requires { ⌜ (Ready call (now datagram) (now reply) × Saw (now slots) call (now datagram) seen) × (own ≡ atOr freshSlot (seen .survey .own) (now slots)) ⌝ }
-    ensures { λ r. ⌜ Answered (now (slots .entry)) call (now (datagram .entry)) r (now (slots .exit)) (now (reply .entry)) (now (reply .exit)) ⌝ }
+    ensures { λ r. ⌜ Answered (seen .denied) (now (slots .entry)) call (now (datagram .entry)) r (now (slots .exit)) (now (reply .entry)) (now (reply .exit)) ⌝ }
 {
     if is_data(seen) {
         return pass_data(datagram, reply, call, seen, own);
@@ -103,7 +118,7 @@ fn answer_own(
     reply: &mut [u8],
 ) -> Outcome
     requires { ⌜ (Ready call (now datagram) (now reply) × Saw (now slots) call (now datagram) seen) × (has (seen .survey .own) ≡ true) ⌝ }
-    ensures { λ r. ⌜ Answered (now (slots .entry)) call (now (datagram .entry)) r (now (slots .exit)) (now (reply .entry)) (now (reply .exit)) ⌝ }
+    ensures { λ r. ⌜ Answered (seen .denied) (now (slots .entry)) call (now (datagram .entry)) r (now (slots .exit)) (now (reply .entry)) (now (reply .exit)) ⌝ }
 {
     let own = slot_at(slots, own_place(seen));
     answer_found(slots, call, seen, own, datagram, reply)
@@ -118,7 +133,7 @@ fn answer_none(
     reply: &mut [u8],
 ) -> Outcome
     requires { ⌜ (Ready call (now datagram) (now reply) × Saw (now slots) call (now datagram) seen) × (has (seen .survey .own) ≡ false) ⌝ }
-    ensures { λ r. ⌜ Answered (now (slots .entry)) call (now (datagram .entry)) r (now (slots .exit)) (now (reply .entry)) (now (reply .exit)) ⌝ }
+    ensures { λ r. ⌜ Answered (seen .denied) (now (slots .entry)) call (now (datagram .entry)) r (now (slots .exit)) (now (reply .entry)) (now (reply .exit)) ⌝ }
 {
     let answer = answer_unfound(datagram, reply, call, seen);
     write_found(slots, seen, answer)
@@ -133,7 +148,7 @@ fn answer_seen(
     reply: &mut [u8],
 ) -> Outcome
     requires { ⌜ Ready call (now datagram) (now reply) × Saw (now slots) call (now datagram) seen ⌝ }
-    ensures { λ r. ⌜ Answered (now (slots .entry)) call (now (datagram .entry)) r (now (slots .exit)) (now (reply .entry)) (now (reply .exit)) ⌝ }
+    ensures { λ r. ⌜ Answered (seen .denied) (now (slots .entry)) call (now (datagram .entry)) r (now (slots .exit)) (now (reply .entry)) (now (reply .exit)) ⌝ }
 {
     if finds_none(seen) {
         return answer_none(slots, call, seen, datagram, reply);
@@ -141,13 +156,34 @@ fn answer_seen(
     answer_own(slots, call, seen, datagram, reply)
 }
 
-// A call that is not refused: what is asked and found, and what becomes of it.
-fn accept_call(slots: &mut [Slot], call: Call, datagram: &[u8], reply: &mut [u8]) -> Outcome
-    requires { ⌜ Ready call (now datagram) (now reply) ⌝ }
-    ensures { λ r. ⌜ Answered (now (slots .entry)) call (now (datagram .entry)) r (now (slots .exit)) (now (reply .entry)) (now (reply .exit)) ⌝ }
+// What is found for what a call asks, and what becomes of it.
+fn answer_asked(
+    slots: &mut [Slot],
+    call: Call,
+    asking: Asking,
+    datagram: &[u8],
+    reply: &mut [u8],
+) -> Outcome
+    requires { ⌜ Ready call (now datagram) (now reply) × (asking .asked ≡ askedFor call (now datagram)) ⌝ }
+    ensures { λ r. ⌜ Answered (asking .denied) (now (slots .entry)) call (now (datagram .entry)) r (now (slots .exit)) (now (reply .entry)) (now (reply .exit)) ⌝ }
 {
-    let seen = look_for(slots, datagram, call);
+    let seen = look_for(slots, call, asking);
     answer_seen(slots, call, seen, datagram, reply)
+}
+
+// A call that is not refused.
+fn accept_call(
+    slots: &mut [Slot],
+    bookkeeping: &mut Bookkeeping,
+    call: Call,
+    datagram: &[u8],
+    reply: &mut [u8],
+) -> Outcome
+    requires { ⌜ Ready call (now datagram) (now reply) ⌝ }
+    ensures { λ r. ⌜ DoesAccepted (now (slots .entry)) (now (bookkeeping .entry)) call (now (datagram .entry)) r (now (slots .exit)) (now (bookkeeping .exit)) (now (reply .entry)) (now (reply .exit)) ⌝ }
+{
+    let asking = begin_call(bookkeeping, datagram, call);
+    answer_asked(slots, call, asking, datagram, reply)
 }
 
 // A client's or a peer's datagram.
@@ -165,8 +201,7 @@ pub fn relay_datagram(
     if number != 0 {
         return Outcome::Refused(number);
     }
-    set_clock(bookkeeping, time_of(call));
-    accept_call(slots, call, datagram, reply)
+    accept_call(slots, bookkeeping, call, datagram, reply)
 }
 
 // The state after a call, and its outcome, where the state is held by value.

@@ -12,7 +12,7 @@ use Rattle.interface.specs.declared.incoming.Call.{Call}
 use Rattle.state.specs.State.{State, clockOf, atTime, withSlots}
 use Rattle.state.specs.Outcomes.{Act, refuse, accept, Does}
 use Rattle.interface.specs.Refusals.{timeOf, lengths, refusal}
-use Rattle.decisions.specs.Decisions.{decided}
+use Rattle.decisions.specs.Decisions.{Decision, namesDenied, decided}
 
 -- ---- The act
 
@@ -22,9 +22,13 @@ done st (At k) (keep out) = accept st out
 done st (At k) (write slot out) = accept (withSlots (set (st .slots) k slot) st) out
 done st Nothing change = accept st (outOf change)
 
+-- what is decided in a state
+abbrev pub decision : State → Call → List ℕ → Decision
+decision st call s = decided (namesDenied (st .bookkeeping .denied) call s) call s (st .slots)
+
 -- a call that is not refused: 'clock = now'
 unfoldable pub accepted : State → Call → List ℕ → Act
-accepted st call s = done (atTime (timeOf call) st) (decided call s (st .slots) .place) (decided call s (st .slots) .change)
+accepted st call s = done (atTime (timeOf call) st) (decision st call s .place) (decision st call s .change)
 
 -- what a call with this datagram and a reply buffer of this length does
 unfoldable pub act : State → Call → List ℕ → ℕ → Act

@@ -1,19 +1,34 @@
 //! The daemon's own tables held against the proved program: tests that need it (CALLS=PATH cargo test -- --ignored).
 
 use crate::admission::{garbage, garbage_from_peer};
+use crate::denied::Denied;
 use crate::ledger::{Change, Ledger, place};
 use crate::line::{self, Answer};
 use crate::pipe::is_accepted;
 use crate::stun::{self, CHANNEL_NUMBER, LIFETIME, REQUESTED_TRANSPORT, XOR_PEER_ADDRESS, ipv4_value};
+use crate::sys::memory;
 use crate::{rebuild, relayed};
+use std::fmt::Write as _;
 use std::io::Write;
-use std::net::{SocketAddr, SocketAddrV4};
+use std::net::{Ipv4Addr, SocketAddr, SocketAddrV4};
+use std::os::fd::AsRawFd;
 use std::process::{Command, Stdio};
 
 /// What `calls` answers to these lines, and its listing.
 fn ask(input: &[u8]) -> (Vec<String>, Vec<String>) {
+    ask_denying(&Denied::default(), input)
+}
+
+/// The same with a list of denied prefixes.
+fn ask_denying(denied: &Denied, input: &[u8]) -> (Vec<String>, Vec<String>) {
     let calls = std::env::var_os("CALLS").expect("CALLS names the proved program");
-    let mut child = (Command::new(calls).stdin(Stdio::piped()).stdout(Stdio::piped()).spawn()).expect("calls runs");
+    let list = denied.lines().map(|lines| memory::file(c"denied", &lines).expect("a file"));
+    let mut child = Command::new(calls)
+        .args(list.as_ref().map(|file| format!("/proc/self/fd/{}", file.as_raw_fd())))
+        .stdin(Stdio::piped())
+        .stdout(Stdio::piped())
+        .spawn()
+        .expect("calls runs");
     let mut to = child.stdin.take().expect("its input");
     let text = std::thread::scope(|scope| {
         // A scope of its own: the program hears the end of its input when `to` is gone.
@@ -253,4 +268,51 @@ fn what_is_garbage_here_is_dropped_or_refused_there() {
         let read = line::read(answer.as_bytes(), &mut Vec::new()).expect("an answer");
         assert!(matches!(read, Answer::Dropped | Answer::Refused(4) | Answer::NotTaken), "{answer}");
     }
+}
+
+/// A list of any prefixes that fits, some under others, with each prefix' first and last address, and those beside them.
+fn any_list(seed: &mut u64) -> (Denied, Vec<Ipv4Addr>) {
+    let (mut text, mut hosts) = (String::new(), Vec::new());
+    for _ in 0..=below(seed, 16) {
+        let length: u32 = small(seed, 33);
+        let place = [0, 0x0a00_0000, 0x0a01_0200, 0xffff_ff00][small::<usize>(seed, 4)] ^ small::<u32>(seed, 1 << 16);
+        let behind = u32::MAX.checked_shr(length).unwrap_or(0);
+        let first = place & !behind;
+        writeln!(text, "{}/{length}", Ipv4Addr::from(first)).expect("a line");
+        let last = first | behind;
+        hosts.extend([first, last, first.wrapping_sub(1), last.wrapping_add(1), small(seed, 1 << 32)].map(Ipv4Addr::from));
+    }
+    (Denied::parse(below(seed, 2) == 0, &text).expect("it fits"), hosts)
+}
+
+#[test]
+#[ignore = "needs the proved program: CALLS=PATH cargo test -- --ignored"]
+fn what_is_denied_here_is_denied_there() {
+    let (client, mut seed, mut met) = (SocketAddr::from(([198, 51, 100, 7], 40000)), 2, [0, 0]);
+    for _ in 0..60 {
+        let (denied, hosts) = any_list(&mut seed);
+        let mut lines = Vec::new();
+        let allocate = stun::request(stun::ALLOCATE, &[(REQUESTED_TRANSPORT, &[17, 0, 0, 0])]);
+        line::client(&mut lines, 0, 1, 0, client, &allocate);
+        for host in &hosts {
+            let peer = ipv4_value(SocketAddrV4::new(*host, 9));
+            let permit = stun::request(stun::CREATE_PERMISSION, &[(XOR_PEER_ADDRESS, &peer)]);
+            let bind = stun::request(stun::CHANNEL_BIND, &[(XOR_PEER_ADDRESS, &peer), (CHANNEL_NUMBER, &[0x40, 0, 0, 0])]);
+            line::client(&mut lines, 0, 1, 0, client, &permit);
+            line::client(&mut lines, 0, 1, 0, client, &bind);
+        }
+        let (answers, _) = ask_denying(&denied, &lines);
+        for (host, answers) in hosts.iter().zip(answers[1..].chunks(2)) {
+            let expected = denied.why(*host);
+            met[usize::from(expected.is_some())] += 1;
+            for answer in answers {
+                assert_eq!(
+                    answer.ends_with("0009000400000403"),
+                    expected.is_some(),
+                    "{host}: {expected:?}, {answer}"
+                );
+            }
+        }
+    }
+    assert!(met[0] > 100 && met[1] > 100, "{met:?}");
 }

@@ -16,8 +16,10 @@ relayd: the proved TURN relay on UDP sockets
   --user WHO              without passwords: a number from 0 to 32 for all clients (0: nobody, who gets 401); or by-port, for tests;
                           or a file with lines of address or prefix, number and name (others are nobody).
                           1 if not given and all listens are on loopback, else it must be given
-  --allow-local-peers     lets clients have peers on this host's loopback and on link-local addresses, as they may
-                          where the relay's own address is on loopback
+  --denied FILE           peers that the relay denies, with 403: lines of an IPv4 address or prefix, 192.0.2.7 or 10.0.0.0/8, and
+                          # comments. It is read only at the start. 127.0.0.0/8, 0.0.0.0/8 and 169.254.0.0/16 are denied
+                          by default, unless the relay's own address is in one of them
+  --allow-local-peers     denies none of these three by default
   --log FILE              allocations, permissions and channels, and refusals with why; - is standard error
   --log-packets           each datagram that the kernel lets in, and what became of it, too
   --status FILE           what is live, for people: written every 5 seconds and on SIGUSR1; without it, SIGUSR1
@@ -25,13 +27,13 @@ relayd: the proved TURN relay on UDP sockets
   --metrics FILE          the same for Prometheus
   --calls PATH            the proved program; calls beside relayd if not given
   --clock-offset SECONDS  for tests: each SIGUSR2 puts the clock this far forward
-  --check                 looks at the options and the users' file, and ends
+  --check                 looks at the options, the users and the denied prefixes, and ends
   --version               the version
   --help                  this text
 
-SIGHUP reads the credentials or the users' file again and opens the log's file anew. SIGUSR1 writes the status. SIGTERM and SIGINT end
-relayd with status 0. It ends with status 2 on bad arguments or files that can't be read or written, and with 1 if a
-socket can't be bound or the relay fails.
+SIGHUP reads the credentials or the users' file again and opens the log's file anew; the denied prefixes stay until relayd is
+restarted. SIGUSR1 writes the status. SIGTERM and SIGINT end relayd with status 0. It ends with status 2 on bad arguments or
+files that can't be read or written, and with 1 if a socket can't be bound or the relay fails.
 ";
 
 /// What the command line asks for.
@@ -43,7 +45,7 @@ pub enum Action {
     Version,
     /// Work on the credentials, by the words after `user`.
     User(Vec<String>),
-    /// Look at the options and the users' file.
+    /// Look at the options, the users and the denied prefixes.
     Check(Config),
     /// Run with these.
     Run(Config),
@@ -60,6 +62,8 @@ pub struct Config {
     pub user: String,
     /// Who may use it, by password.
     pub credentials: Option<PathBuf>,
+    /// The file of peers that are denied.
+    pub denied: Option<String>,
     /// Whether peers on this host and its links are allowed.
     pub allow_local_peers: bool,
     /// Where the log goes.
@@ -83,6 +87,7 @@ struct Given {
     relay: Option<Ipv4Addr>,
     user: Option<String>,
     credentials: Option<PathBuf>,
+    denied: Option<String>,
     log: Option<PathBuf>,
     status: Option<PathBuf>,
     metrics: Option<PathBuf>,
@@ -124,11 +129,12 @@ pub fn parse(arguments: impl IntoIterator<Item = String>) -> Result<Action, Stri
 }
 
 const FLAGS: [&str; 3] = ["--allow-local-peers", "--log-packets", "--check"];
-const WITH_VALUE: [&str; 9] = [
+const WITH_VALUE: [&str; 10] = [
     "--listen",
     "--relay",
     "--user",
     "--credentials",
+    "--denied",
     "--log",
     "--status",
     "--metrics",
@@ -162,6 +168,7 @@ impl Given {
             "--relay" => once(name, &mut self.relay, relay_address(&value)?),
             "--user" => once(name, &mut self.user, value),
             "--credentials" => once(name, &mut self.credentials, value.into()),
+            "--denied" => once(name, &mut self.denied, value),
             "--log" => once(name, &mut self.log, value.into()),
             "--status" => once(name, &mut self.status, value.into()),
             "--metrics" => once(name, &mut self.metrics, value.into()),
@@ -197,6 +204,7 @@ impl Given {
             relay,
             user: self.user.or(default).ok_or(open)?,
             credentials: self.credentials,
+            denied: self.denied,
             allow_local_peers,
             log: self.log,
             log_packets,
@@ -272,7 +280,7 @@ mod tests {
         assert_eq!(config.listen, ["127.0.0.1:3478".parse().expect("an address")]);
         assert_eq!(config.relay, Ipv4Addr::LOCALHOST);
         assert_eq!(config.user, "1");
-        assert_eq!((config.log, config.status, config.calls), (None, None, None));
+        assert_eq!((config.log, config.status, config.calls, config.denied), (None, None, None, None));
         assert_eq!((config.metrics, config.clock_offset), (None, None));
         assert!(!config.allow_local_peers && !config.log_packets);
     }
@@ -324,6 +332,7 @@ mod tests {
         refused("--relay ::1", "IPv4");
         refused("--relay 0.0.0.0", "one IPv4 address");
         refused("--user 1 --user 2", "twice");
+        refused("--denied x --denied y", "twice");
         refused("--user 1 --credentials x", "give one");
         refused("--clock-offset -5", "seconds");
         refused("--clock-offset +5", "seconds");

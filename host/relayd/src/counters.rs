@@ -96,6 +96,15 @@ impl Counters {
         self.drops[cause as usize] += 1;
     }
 
+    /// How many error responses had this code.
+    pub fn refused_with(&self, wanted: u16) -> u64 {
+        self.refusals
+            .iter()
+            .filter(|((_, code), _)| *code == wanted)
+            .map(|(_, count)| count)
+            .sum()
+    }
+
     /// How many of this cause.
     pub fn dropped(&self, cause: Cause) -> u64 {
         self.drops[cause as usize]
@@ -116,5 +125,14 @@ mod tests {
         }
         let counts: Vec<u64> = Cause::ALL.iter().map(|cause| counters.dropped(*cause)).collect();
         assert_eq!(counts, (0..10).collect::<Vec<u64>>());
+    }
+
+    #[test]
+    fn refusals_are_counted_by_code() {
+        let counters = Counters {
+            refusals: BTreeMap::from([((8, 403), 2), ((9, 403), 3), ((8, 508), 7)]),
+            ..Counters::default()
+        };
+        assert_eq!((counters.refused_with(403), counters.refused_with(437)), (5, 0));
     }
 }

@@ -3,6 +3,7 @@
 use crate::admission::{Gate, Sender};
 use crate::clock::{Clock, minutes};
 use crate::counters::{Cause, Counters};
+use crate::denied::Denied;
 use crate::explain;
 use crate::front;
 use crate::ledger::{Allocation, Change, Ledger};
@@ -14,7 +15,7 @@ use crate::stun;
 use crate::users;
 use std::net::SocketAddr;
 
-/// A call that the relay was asked about, or that was answered before.
+/// A call that the relay was asked about, or that the front end has answered.
 #[derive(Clone, Copy)]
 pub struct Call<'a> {
     pub now: u64,
@@ -28,6 +29,7 @@ pub struct Desk {
     pub sockets: Sockets,
     pub outbox: Outbox,
     pub gate: Gate,
+    pub denied: Denied,
     pub ledger: Ledger,
     pub log: Log,
     pub clock: Clock,
@@ -67,11 +69,11 @@ impl Desk {
     }
 
     /// A client's request gets its response.
-    pub fn respond(&mut self, call: &Call, to: SocketAddr, response: &[u8]) {
+    fn respond(&mut self, call: &Call, to: SocketAddr, response: &[u8]) {
         match stun::response(response) {
             Some((_, true)) => self.accepted(call, to, response),
             Some((method, false)) => {
-                let reason = explain::reason(&self.ledger, call.sender.user, to, call.datagram, response);
+                let reason = explain::reason(&self.ledger, &self.denied, call.sender.user, to, call.datagram, response);
                 self.refused(call, to, method, response, reason);
             }
             None => {}

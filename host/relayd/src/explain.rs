@@ -1,18 +1,18 @@
 //! Why a request was refused, in words: the relay says a code, and the request and the ledger have the attribute or the limit behind it.
 
-use crate::admission::local_peer;
+use crate::denied::Denied;
 use crate::ledger::{Allocation, Ledger, SLOTS};
 use crate::stun;
 use std::fmt::Write;
-use std::net::SocketAddr;
+use std::net::{SocketAddr, SocketAddrV4};
 
 /// The attribute, number or limit behind an error response.
-pub fn reason(ledger: &Ledger, user: u32, from: SocketAddr, request: &[u8], reply: &[u8]) -> String {
+pub fn reason(ledger: &Ledger, denied: &Denied, user: u32, from: SocketAddr, request: &[u8], reply: &[u8]) -> String {
     let (method, own) = (stun::kind(request), ledger.of(from));
     match stun::error_code(reply).unwrap_or(0) {
         400 => malformed(own, request),
         401 => "no user has this address".to_string(),
-        403 => local_peer(request).map_or_else(String::new, |peer| format!("peer {peer} is local to the relay's host")),
+        403 => denied_peer(denied, request),
         420 => unknown_attributes(reply),
         437 => own.map_or_else(
             || "it has no allocation".to_string(),
@@ -27,6 +27,12 @@ pub fn reason(ledger: &Ledger, user: u32, from: SocketAddr, request: &[u8], repl
         508 => no_room(ledger, own, method),
         _ => String::new(),
     }
+}
+
+/// The first peer of a request that is denied, and which prefix denies it.
+fn denied_peer(denied: &Denied, request: &[u8]) -> String {
+    let told = |peer: SocketAddrV4| Some(format!("peer {} is {}", peer.ip(), denied.why(*peer.ip())?));
+    stun::peers(request).find_map(told).unwrap_or_default()
 }
 
 /// The name of an attribute, for the ones that real clients send and the relay does not know or takes no other value of.
@@ -109,7 +115,13 @@ mod tests {
         allocate(&mut ledger, 0, client(1), 49157, 600);
         bind(&mut ledger, 0, client(1), 0x4000, "192.0.2.150:5000").expect("it is bound");
         let asked = request(method, attributes);
-        reason(&ledger, 3, client(1), &asked, &stun::error_response(&asked, code))
+        let denied = Denied::open(true, None).expect("the defaults");
+        reason(&ledger, &denied, 3, client(1), &asked, &stun::error_response(&asked, code))
+    }
+
+    /// The value of XOR-PEER-ADDRESS.
+    fn to(text: &str) -> [u8; 8] {
+        stun::ipv4_value(text.parse().expect("an address"))
     }
 
     #[test]
@@ -123,16 +135,21 @@ mod tests {
             why(442, stun::ALLOCATE, &[(stun::REQUESTED_TRANSPORT, &[6, 0, 0, 0])]),
             "REQUESTED-TRANSPORT 6, only 17, UDP"
         );
-        assert_eq!(
-            reason(
-                &Ledger::new(),
-                0,
-                client(9),
-                &request(4, &[]),
-                &stun::error_response(&request(4, &[]), 437)
-            ),
-            "it has no allocation"
-        );
+        let asked = request(4, &[]);
+        let reply = stun::error_response(&asked, 437);
+        let none = reason(&Ledger::new(), &Denied::default(), 0, client(9), &asked, &reply);
+        assert_eq!(none, "it has no allocation");
+    }
+
+    #[test]
+    fn denied_peers_are_named() {
+        let (good, bad) = (to("192.0.2.1:1"), to("127.0.0.9:1"));
+        for method in [stun::CREATE_PERMISSION, stun::CHANNEL_BIND] {
+            assert_eq!(
+                why(403, method, &[(stun::XOR_PEER_ADDRESS, &good), (stun::XOR_PEER_ADDRESS, &bad)]),
+                "peer 127.0.0.9 is denied by 127.0.0.0/8, a default of relayd"
+            );
+        }
     }
 
     #[test]
@@ -144,7 +161,7 @@ mod tests {
                 (stun::UNKNOWN_ATTRIBUTES, &[0, 0x18, 0x7f, 0xff]),
             ],
         );
-        let text = reason(&Ledger::new(), 3, client(1), &request(3, &[]), &reply);
+        let text = reason(&Ledger::new(), &Denied::default(), 3, client(1), &request(3, &[]), &reply);
         assert_eq!(text, "0x0018 EVEN-PORT, 0x7fff");
     }
 
@@ -153,7 +170,6 @@ mod tests {
         assert_eq!(why(400, stun::ALLOCATE, &[]), "REQUESTED-TRANSPORT is missing");
         assert_eq!(why(400, stun::REFRESH, &[(stun::LIFETIME, &[0; 8])]), "LIFETIME has 8 bytes");
         assert_eq!(why(400, stun::CREATE_PERMISSION, &[]), "XOR-PEER-ADDRESS is missing or malformed");
-        let to = |text: &str| stun::ipv4_value(text.parse().expect("an address"));
         let bound = |number: [u8; 2], peer: &str| {
             let value = [number[0], number[1], 0, 0];
             why(

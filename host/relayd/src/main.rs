@@ -6,6 +6,7 @@ mod against_calls;
 mod args;
 mod clock;
 mod counters;
+mod denied;
 mod desk;
 mod explain;
 mod front;
@@ -16,6 +17,7 @@ mod metrics;
 mod notify;
 mod output;
 mod pipe;
+mod prefix;
 mod program;
 mod random;
 mod rebuild;
@@ -32,12 +34,14 @@ mod users;
 
 use admission::Gate;
 use args::{Action, Config};
+use denied::Denied;
 use desk::Desk;
 use log::say;
 use relay::Stop;
 use server::{Parts, Server};
 use std::env;
 use std::io::{self, Write};
+use std::net::Ipv4Addr;
 use std::process::ExitCode;
 use users::Users;
 
@@ -95,7 +99,11 @@ fn arguments() -> Result<Vec<String>, String> {
 
 fn check(config: &Config) -> Result<(), Trouble> {
     gate(config, [0; 32])?;
-    print("relayd: the options and the users are good\n");
+    let denied = denied(config)?;
+    print(&format!("relayd: the options and the users are good\nrelayd: {}\n", denied.told()));
+    if let Some(note) = own_address_denied(&denied, config.relay) {
+        print(&format!("relayd: {note}\n"));
+    }
     Ok(())
 }
 
@@ -105,8 +113,21 @@ fn gate(config: &Config, key: [u8; 32]) -> Result<Gate, Trouble> {
     Ok(Gate {
         users: Users::from_word(&config.user).map_err(Trouble::Setup)?,
         front: front.transpose().map_err(Trouble::Setup)?,
-        keeps_local_peers: !config.allow_local_peers && !admission::is_local(config.relay),
     })
+}
+
+/// The peers that the relay denies.
+fn denied(config: &Config) -> Result<Denied, Trouble> {
+    let defaults = !config.allow_local_peers && !denied::is_local(config.relay);
+    Denied::open(defaults, config.denied.as_deref()).map_err(Trouble::Setup)
+}
+
+/// What somebody should know who has denied the relay's own address.
+fn own_address_denied(denied: &Denied, relay: Ipv4Addr) -> Option<String> {
+    let why = denied.why(relay)?;
+    Some(format!(
+        "two clients of this relay can't be each other's peers: its own address {relay} is {why}"
+    ))
 }
 
 /// Opens all that relayd needs, and runs it.
@@ -117,7 +138,7 @@ fn run(config: Config) -> Result<(), Trouble> {
     let signals = sys::signals::Signals::take().map_err(|error| Trouble::Running(format!("cannot take signals: {error}")))?;
     let path = args::find_calls(config.calls.as_deref(), env::current_exe().ok().as_deref()).map_err(Trouble::Setup)?;
     let executable = program::Executable::open(&path).map_err(Trouble::Setup)?;
-    let relay = pipe::Pipe::start(executable, config.relay, signals.watch()).map_err(Trouble::Setup)?;
+    let relay = pipe::Pipe::start(executable, &desk.denied, config.relay, signals.watch()).map_err(Trouble::Setup)?;
     let listen: Vec<String> = config.listen.iter().map(ToString::to_string).collect();
     let about = format!("{VERSION}, listening on {}, relaying on {}", listen.join(" and "), config.relay);
     let mut reports = reports::Reports::new(config.status, config.metrics, about.clone())
@@ -132,14 +153,7 @@ fn run(config: Config) -> Result<(), Trouble> {
         notify: notify::Notify::new(),
         clock_offset: config.clock_offset,
     };
-    let buffers = format!("{about}, with receive buffers of {} bytes", parts.desk.sockets.buffer);
-    say(buffers.trim_start_matches("relayd "));
-    if !parts.desk.log.is_standard_error() {
-        parts.desk.event(&buffers);
-    }
-    if let Some(credentials) = parts.desk.gate.front.as_ref().map(front::Front::told) {
-        parts.desk.event(&format!("clients need credentials: {credentials}"));
-    }
+    announce(&mut parts.desk, &about, config.relay);
     let ended = Server::new(parts).and_then(Server::run);
     ended.map_err(|stop| match stop {
         Stop::Failed(why) => Trouble::Running(why),
@@ -147,15 +161,32 @@ fn run(config: Config) -> Result<(), Trouble> {
     })
 }
 
-/// All that outcomes touch: users, log and sockets.
+/// Tells whoever started relayd, and the log, what it runs with.
+fn announce(desk: &mut Desk, about: &str, relay: Ipv4Addr) {
+    let buffers = format!("{about}, with receive buffers of {} bytes", desk.sockets.buffer);
+    say(buffers.trim_start_matches("relayd "));
+    if !desk.log.is_standard_error() {
+        desk.event(&buffers);
+    }
+    if let Some(credentials) = desk.gate.front.as_ref().map(front::Front::told) {
+        desk.event(&format!("clients need credentials: {credentials}"));
+    }
+    desk.event(&desk.denied.told());
+    if let Some(note) = own_address_denied(&desk.denied, relay) {
+        desk.event(&note);
+    }
+}
+
+/// All that outcomes touch: users, denied prefixes, log and sockets.
 fn desk(config: &Config, key: [u8; 32]) -> Result<Desk, Trouble> {
-    let gate = gate(config, key)?;
+    let (gate, denied) = (gate(config, key)?, denied(config)?);
     let log = log::Log::open(config.log.as_deref(), config.log_packets).map_err(Trouble::Setup)?;
     let sockets = sockets::Sockets::bind(&config.listen, config.relay).map_err(Trouble::Running)?;
     Ok(Desk {
         sockets,
         outbox: sockets::Outbox::default(),
         gate,
+        denied,
         ledger: ledger::Ledger::new(),
         log,
         clock: clock::Clock::new(config.clock_offset.is_some()),

@@ -21,7 +21,7 @@ pub fn text(desk: &Desk, restarted: u64) -> String {
         put,
         "requests_refused_total",
         "counter",
-        "Requests answered with an error, by method and code.",
+        "Requests answered with an error, by method and code; 403 is a denied peer.",
     );
     for ((method, code), count) in &desk.counters.refusals {
         let labels = format!("{{method=\"{}\",code=\"{code}\"}}", stun::method_name(*method));

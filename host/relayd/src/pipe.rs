@@ -1,11 +1,12 @@
 //! The proved relay as the program `calls` behind a pipe: a batch of lines, an answer for each line, and a new program with the same table
 //! if the old one ends, hangs or answers senselessly.
 
+use crate::denied::Denied;
 use crate::line::{self, Answer};
 use crate::program::{Executable, Program, Trouble};
 use crate::relay::{Outcome, Stop};
 use crate::relayed;
-use crate::stun;
+use crate::stun::{self, REQUESTED_TRANSPORT, XOR_PEER_ADDRESS, ipv4_value};
 use crate::sys::signals::Watch;
 use std::io::BufRead;
 use std::net::{Ipv4Addr, SocketAddr, SocketAddrV4};
@@ -16,6 +17,9 @@ use std::time::{Duration, Instant};
 /// So many starts in so much time are too many.
 const STARTS: usize = 5;
 const IN_TIME: Duration = Duration::from_secs(30);
+
+/// Who sends the first lines, which are no datagrams.
+const NOBODY: SocketAddrV4 = SocketAddrV4::new(Ipv4Addr::UNSPECIFIED, 0);
 
 /// The relay behind the pipe.
 pub struct Pipe {
@@ -84,11 +88,18 @@ impl Batch {
 }
 
 impl Pipe {
-    /// Starts the program and puts a first line, so that a file which isn't `calls` is told at once.
-    pub fn start(executable: Executable, relay: Ipv4Addr, watch: Watch) -> Result<Self, String> {
-        let name = executable.name.clone();
-        let program = Program::start(&executable).map_err(|error| format!("cannot start {name}: {error}"))?;
-        let mut pipe = Pipe {
+    /// Starts the program with its list of denied prefixes. A file which isn't `calls`, and a list that has no effect, are told at once.
+    pub fn start(mut executable: Executable, denied: &Denied, relay: Ipv4Addr, watch: Watch) -> Result<Self, String> {
+        if let Some(lines) = denied.lines() {
+            executable = executable.with_list(&lines)?;
+        }
+        let tried = denied.first().map_or(Ok(()), |host| try_list(&executable, host, watch));
+        let begun = tried.and_then(|()| begin(&executable, watch));
+        let program = begun.map_err(|trouble| match trouble {
+            Trouble::Program(why) => format!("{} {why}", executable.name),
+            Trouble::Ending => "asked to end at the start".to_string(),
+        })?;
+        Ok(Pipe {
             executable,
             program,
             relay,
@@ -96,14 +107,7 @@ impl Pipe {
             batch: Batch::default(),
             restarts: Vec::new(),
             restarted: 0,
-        };
-        pipe.peer(0, SocketAddrV4::new(Ipv4Addr::UNSPECIFIED, 0), 0, b"");
-        match pipe.ask() {
-            Ok(()) if pipe.outcome(0) == Outcome::Dropped => {}
-            _ => return Err(format!("{name} does not answer as calls does")),
-        }
-        pipe.clear();
-        Ok(pipe)
+        })
     }
 
     /// What tells when the program ends. It is another one after a restart.
@@ -189,13 +193,15 @@ impl Pipe {
             self.batch.alone = false;
         }
         self.batch.one_by_one = true;
+        let mut why = why.to_string();
         loop {
-            self.may_start(why)?;
+            self.may_start(&why)?;
             match self.start_with(table, count) {
                 Ok(()) => return Ok(()),
                 Err(Trouble::Ending) => return Err(Stop::Asked),
-                Err(Trouble::Program(again)) => tell(&format!("{} {again}", self.executable.name)),
+                Err(Trouble::Program(again)) => why = again,
             }
+            tell(&format!("{} {why}", self.executable.name));
         }
     }
 
@@ -215,7 +221,7 @@ impl Pipe {
     }
 
     fn start_with(&mut self, table: &[u8], count: usize) -> Result<(), Trouble> {
-        self.program = Program::start(&self.executable).map_err(|error| Trouble::Program(format!("cannot be started: {error}")))?;
+        self.program = begin(&self.executable, self.watch)?;
         let mut text = Vec::new();
         self.program.ask(table, count, &mut text, self.watch)?;
         let accepted = text.split(|&byte| byte == b'\n').filter(|answer| is_accepted(answer)).count();
@@ -233,6 +239,43 @@ impl Pipe {
     }
 }
 
+/// Starts a program and puts a first line, which changes nothing: its answer tells what isn't `calls`, and a list that `calls` refuses.
+fn begin(executable: &Executable, watch: Watch) -> Result<Program, Trouble> {
+    let mut program = Program::start(executable).map_err(|error| Trouble::Program(format!("cannot be started: {error}")))?;
+    let (mut lines, mut text) = (Vec::new(), Vec::new());
+    line::peer(&mut lines, 0, NOBODY.into(), 0, b"");
+    program.ask(&lines, 1, &mut text, watch)?;
+    let answer = line::read(text.trim_ascii_end(), &mut Vec::new());
+    let why = match answer {
+        Some(Answer::Dropped) => return Ok(program),
+        Some(Answer::Refused(9)) if executable.has_list() => "refuses the list of denied prefixes: 9, a bad line",
+        Some(Answer::Refused(10)) if executable.has_list() => "refuses the list of denied prefixes: 10, more nodes than 512",
+        Some(Answer::NotTaken) if executable.has_list() => "cannot read the list of denied prefixes",
+        _ => "does not answer as calls does",
+    };
+    Err(Trouble::Program(why.to_string()))
+}
+
+/// Asks for a permission to a denied host, of a program that is used for nothing else: an older `calls` does not look at its list.
+fn try_list(executable: &Executable, host: Ipv4Addr, watch: Watch) -> Result<(), Trouble> {
+    let mut program = begin(executable, watch)?;
+    let (mut lines, mut text, mut reply) = (Vec::new(), Vec::new(), Vec::new());
+    let peer = ipv4_value(SocketAddrV4::new(host, 0));
+    let allocate = (stun::ALLOCATE, REQUESTED_TRANSPORT, &[17, 0, 0, 0][..]);
+    for (method, kind, value) in [allocate, (stun::CREATE_PERMISSION, XOR_PEER_ADDRESS, &peer)] {
+        let request = stun::request_of(stun::NO_TRANSACTION, method, &[(kind, value)]);
+        line::client(&mut lines, 0, 1, 0, NOBODY.into(), &request);
+    }
+    program.ask(&lines, 2, &mut text, watch)?;
+    let answer = text.split(|&byte| byte == b'\n').nth(1).unwrap_or_default();
+    match line::read(answer, &mut reply).and_then(|_| stun::error_code(&reply)) {
+        Some(403) => Ok(()),
+        _ => Err(Trouble::Program(format!(
+            "takes no list of denied prefixes: it does not deny {host}"
+        ))),
+    }
+}
+
 /// Whether an answer's line is a success response: an accepted request's.
 pub fn is_accepted(answer: &[u8]) -> bool {
     let mut bytes = Vec::new();
@@ -246,9 +289,13 @@ mod tests {
     use std::path::Path;
 
     fn start(script: &Script) -> Result<Pipe, String> {
+        start_denying(&Denied::default(), script)
+    }
+
+    fn start_denying(denied: &Denied, script: &Script) -> Result<Pipe, String> {
         // Another test's child may still hold the file that was just written.
         loop {
-            match Pipe::start(script.open(), Ipv4Addr::LOCALHOST, Watch::never()) {
+            match Pipe::start(script.open(), denied, Ipv4Addr::LOCALHOST, Watch::never()) {
                 Err(busy) if busy.contains("busy") => std::thread::sleep(Duration::from_millis(5)),
                 started => return started,
             }
@@ -288,7 +335,7 @@ mod tests {
 
     #[test]
     fn a_program_that_ends_is_started_again_with_its_table() {
-        // Ends at the third line for good, and answers the table's two requests with success.
+        // Ends at its fourth line, and answers the table's request with success.
         let body = r"n=0; while read line; do n=$((n+1)); case $line in *T*) printf 'S\tc6336407\t40000\t010800002112a442000000000000000000000000\n';; P*) echo D;; *) [ $n = 4 ] && exit 1; echo 'R	1';; esac; done";
         let script = Script::new("again", body);
         let mut pipe = start(&script).expect("it starts");
@@ -296,13 +343,13 @@ mod tests {
         assert_eq!(pipe.answered(), 2);
         let before = pipe.process();
         let mut told = Vec::new();
-        pipe.restart("has ended", b"T\nT\n", 2, |what| told.push(what.to_string()))
+        pipe.restart("has ended", b"T\n", 1, |what| told.push(what.to_string()))
             .expect("it starts again");
         assert!(pipe.process() != before && pipe.restarted == 1 && told.len() == 1, "{told:?}");
-        // The third line is the new one's third too, the fourth its fourth: that one fails alone and is given up.
+        // The third of the batch is the new one's third line, the fourth its fourth: that one fails alone and is given up.
         assert!(pipe.ask().is_err());
         assert_eq!(pipe.answered(), 3);
-        pipe.restart("has ended", b"T\nT\n", 2, |_| {}).expect("it starts again");
+        pipe.restart("has ended", b"T\n", 1, |_| {}).expect("it starts again");
         pipe.ask().expect("all have their outcome");
         let outcomes: Vec<Outcome> = (0..4).map(|place| pipe.outcome(place)).collect();
         assert_eq!(
@@ -339,6 +386,49 @@ mod tests {
         for answer in ["S\tc6336407\t40000\t", "D", "E", "R\t1", ""] {
             assert!(!is_accepted(answer.as_bytes()), "{answer}");
         }
+    }
+
+    #[test]
+    fn a_list_that_has_no_effect_is_told() {
+        let denied = Denied::open(true, None).expect("the defaults");
+        let permits =
+            r"read line; echo D; while read line; do printf 'S\tc6336407\t40000\t010800002112a442000000000000000000000000\n'; done";
+        for (name, body, told) in [
+            (
+                "refuses-9",
+                r"printf 'R\t9\n'",
+                "refuses the list of denied prefixes: 9, a bad line",
+            ),
+            (
+                "refuses-10",
+                r"printf 'R\t10\n'",
+                "refuses the list of denied prefixes: 10, more nodes than 512",
+            ),
+            ("unread", "echo E", "cannot read the list of denied prefixes"),
+            ("permits", permits, "takes no list of denied prefixes: it does not deny 127.0.0.0"),
+        ] {
+            let script = Script::new(name, body);
+            let why = start_denying(&denied, &script).err().expect(told);
+            assert!(why.contains(name) && why.ends_with(told), "{why}");
+        }
+        let why = start(&Script::new("no-list-9", r"printf 'R\t9\n'")).err().expect("no list");
+        assert!(why.ends_with("does not answer as calls does"), "{why}");
+    }
+
+    #[test]
+    fn a_list_that_is_not_read_again_ends_relayd() {
+        // Reads its list at two starts, the trial's and the first, and then no more.
+        let mark = std::env::temp_dir().join(format!("relayd-test-{}-starts", std::process::id()));
+        let error_403 = r"printf 'S\tc6336407\t40000\t011800082112a4420000000000000000000000000009000400000403\n'";
+        let body = format!(
+            "echo >>{0}; [ $(wc -l <{0}) -gt 2 ] && echo E && exit; read line; echo D; while read line; do {error_403}; done",
+            mark.display()
+        );
+        let denied = Denied::open(true, None).expect("the defaults");
+        let mut pipe = start_denying(&denied, &Script::new("once", &body)).expect("it starts");
+        let stop = pipe.restart("has ended", b"", 0, |_| {});
+        assert!(matches!(stop, Err(Stop::Failed(why)) if why.contains("cannot read the list of denied prefixes, and 5 times before")));
+        std::fs::remove_file(mark).expect("it is removed");
     }
 
     #[test]

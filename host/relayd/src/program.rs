@@ -1,6 +1,7 @@
-//! The proved program `calls` as a process: started from a descriptor that is held open, asked over a pair of stream sockets, with a
-//! deadline for each answer.
+//! The proved program `calls` as a process: started from a descriptor that is held open, with its list of denied prefixes in another, asked
+//! over a pair of stream sockets, with a deadline for each answer.
 
+use crate::sys::memory;
 use crate::sys::options::{has_input, is_hung_up, keep_over_exec, send_now, wait_for_either};
 use crate::sys::signals::Watch;
 use std::fs::File;
@@ -22,6 +23,8 @@ const AT_ONCE: usize = 1 << 16;
 /// The program's file, held open: what is put in its place changes nothing before relayd itself starts again.
 pub struct Executable {
     file: File,
+    /// What it is started with, if there is a list; every start reads it from its beginning.
+    list: Option<File>,
     /// Its path, for messages.
     pub name: String,
 }
@@ -40,10 +43,27 @@ impl Executable {
             Ok(file)
         };
         match open() {
-            Ok(file) => Ok(Executable { file, name }),
+            Ok(file) => Ok(Executable { file, list: None, name }),
             Err(error) => Err(format!("cannot open {name}: {error}")),
         }
     }
+
+    /// It is started with this list of denied prefixes.
+    pub fn with_list(mut self, lines: &[u8]) -> Result<Self, String> {
+        let list = memory::file(c"denied", lines).map_err(|error| format!("cannot keep the denied prefixes in memory: {error}"))?;
+        self.list = Some(list);
+        Ok(self)
+    }
+
+    /// Whether it is started with a list.
+    pub fn has_list(&self) -> bool {
+        self.list.is_some()
+    }
+}
+
+/// The name by which a program that is started finds a descriptor that was left open for it.
+fn name_of(file: &File) -> String {
+    format!("/proc/self/fd/{}", file.as_raw_fd())
 }
 
 /// Why there is no answer.
@@ -68,8 +88,9 @@ impl Program {
         let (ours, theirs) = UnixStream::pair()?;
         ours.set_read_timeout(Some(MOMENT))?;
         let input = OwnedFd::from(theirs.try_clone()?);
-        let child = Command::new(format!("/proc/self/fd/{}", executable.file.as_raw_fd()))
+        let child = Command::new(name_of(&executable.file))
             .arg0("calls")
+            .args(executable.list.as_ref().map(name_of))
             .stdin(Stdio::from(input))
             .stdout(Stdio::from(OwnedFd::from(theirs)))
             .process_group(0)
@@ -112,11 +133,12 @@ impl Program {
         Ok(())
     }
 
-    /// Writes what fits.
+    /// Writes what fits. To a program that has ended all is written: what it said before its end is still there to be read.
     fn write(&mut self, lines: &[u8]) -> Result<usize, Trouble> {
         match send_now(&self.stream, lines) {
             Ok(sent) => Ok(sent),
             Err(error) if matches!(error.kind(), ErrorKind::WouldBlock | ErrorKind::Interrupted) => Ok(0),
+            Err(error) if matches!(error.kind(), ErrorKind::BrokenPipe | ErrorKind::ConnectionReset) => Ok(lines.len()),
             Err(error) => Err(self.ended(&error)),
         }
     }
@@ -249,6 +271,31 @@ pub mod tests {
         assert_eq!(trouble, Err(Trouble::Program("has ended (exit status: 3)".to_string())));
         assert_eq!(program.end(), trouble.err());
         assert_eq!(answers, b"D\n");
+    }
+
+    #[test]
+    fn what_a_program_said_before_its_end_is_read() {
+        let script = Script::new("brief", "echo E");
+        let mut program = start(&script.open());
+        program.child.wait().expect("it ends");
+        let mut answers = Vec::new();
+        program.ask(b"one\n", 1, &mut answers, Watch::never()).expect("its answer");
+        assert_eq!(answers, b"E\n");
+        assert!(program.ask(b"two\n", 1, &mut answers, Watch::never()).is_err());
+    }
+
+    #[test]
+    fn every_start_has_the_whole_list() {
+        let script = Script::new("list", "echo $#; cat $1");
+        let executable = script.open().with_list(b"0a000000\t8\n").expect("a list");
+        for _ in 0..2 {
+            let mut answers = Vec::new();
+            start(&executable).ask(b"", 2, &mut answers, Watch::never()).expect("it answers");
+            assert_eq!(answers, b"1\n0a000000\t8\n");
+        }
+        let (executable, mut answers) = (Script::new("no-list", "echo $#").open(), Vec::new());
+        start(&executable).ask(b"", 1, &mut answers, Watch::never()).expect("it answers");
+        assert_eq!(answers, b"0\n");
     }
 
     #[test]

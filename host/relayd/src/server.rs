@@ -261,7 +261,7 @@ fn arrival(door: Door, from: SocketAddr) -> Arrival {
 }
 
 impl Parts {
-    /// A client's datagram on its way to the relay: here it gets its user number, an answer, or is dropped.
+    /// A client's datagram on its way to the relay: here it gets its user number, the front end's answer, or is dropped.
     fn put_client(&mut self, moment: Moment, received: &Received, datagram: &[u8]) -> Result<Option<Sender>, Stop> {
         let (from, now, arrival) = (received.from, moment.now, Arrival::Client(received.from));
         let sender = &Sender::default();
@@ -280,7 +280,6 @@ impl Parts {
                 self.relay.client(now, sender.user, start, from, datagram);
                 return Ok(Some(sender));
             }
-            Admission::Reply(sender, response) => self.desk.respond(&Call { sender: &sender, ..call }, from, &response),
             Admission::TurnAway(cause, response) => self.desk.turn_away(&call, from, &cause, &response),
             Admission::Drop(cause) => self.desk.drop(arrival, received.length, cause),
             Admission::Alarm(cause, why) => {
@@ -311,13 +310,16 @@ impl Parts {
         }
     }
 
-    /// SIGHUP: the credentials or the users' file again, and the log's file.
+    /// SIGHUP: the credentials or the users' file again, and the log's file. The denied prefixes stay.
     fn reload(&mut self) {
         let users = self.desk.gate.reload();
         let log = self.desk.log.reopen();
         match users {
             Ok(what) => self.desk.event(&what),
             Err(why) => self.desk.alert(&format!("the users stay as they were: {why}")),
+        }
+        if let Some(what) = self.desk.denied.stays() {
+            self.desk.alert(&what);
         }
         if let Err(why) = log {
             self.desk.alert(&why);

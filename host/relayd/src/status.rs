@@ -12,6 +12,7 @@ pub fn text(desk: &Desk, restarted: u64, about: &str) -> String {
     let now = desk.clock.now();
     let mut text = format!("{about}\n{}, up {}\n", desk.clock.stamp(), days(now));
     let _ = writeln!(text, "{} of {SLOTS} allocations", desk.ledger.allocations().count());
+    let _ = writeln!(text, "{}", desk.denied.told());
     for allocation in desk.ledger.allocations() {
         put_allocation(&mut text, desk, allocation, now);
     }
@@ -51,8 +52,12 @@ fn put_counts(text: &mut String, desk: &Desk, restarted: u64) {
     let _ = writeln!(text, "\nSince the start:");
     let _ = writeln!(text, "  to peers: {}", flow(counters.to_peers));
     let _ = writeln!(text, "  to clients: {}", flow(counters.to_clients));
-    let refused: u64 = counters.refusals.values().sum();
-    let _ = writeln!(text, "  requests: {} accepted, {refused} refused", counters.accepted);
+    let (refused, denied): (u64, u64) = (counters.refusals.values().sum(), counters.refused_with(403));
+    let _ = writeln!(
+        text,
+        "  requests: {} accepted, {refused} refused, {denied} of them for a denied peer",
+        counters.accepted
+    );
     let counts = desk.gate.front.as_ref().map(Front::counts).unwrap_or_default();
     if !counts.is_empty() {
         let counts: Vec<String> = counts.iter().map(|(what, times)| format!("{times} {what}")).collect();

@@ -157,6 +157,7 @@ pub fn request_of(transaction: TransactionId, method: u16, attributes: &[(u16, &
 }
 
 /// The error response to a request, as the relay would write it.
+#[cfg(any(test, feature = "front"))]
 pub fn error_response(request: &[u8], code: u16) -> Vec<u8> {
     let [hundreds, rest] = [code / 100, code % 100].map(|part| u8::try_from(part).unwrap_or(0));
     message(
@@ -192,12 +193,6 @@ pub fn length_field(length: usize) -> [u8; 2] {
 /// Whether a datagram is one that a client can send: STUN or `ChannelData`, by its first byte.
 pub fn has_a_known_first_byte(datagram: &[u8]) -> bool {
     matches!(datagram.first(), Some(0..=3 | 64..=79))
-}
-
-/// Whether a datagram has the header of a STUN message of its length.
-pub fn has_a_header(datagram: &[u8]) -> bool {
-    let length = datagram.len().wrapping_sub(HEADER);
-    datagram.len() >= HEADER && usize::from(word(&datagram[2..])) == length && datagram[4..8] == COOKIE.to_be_bytes()
 }
 
 /// Whether a reply is a Data indication.
@@ -278,18 +273,6 @@ mod tests {
         made.truncate(30);
         assert_eq!(attributes(&made).count(), 0);
         assert_eq!(attributes(b"").count(), 0);
-    }
-
-    #[test]
-    fn headers() {
-        let made = request(CREATE_PERMISSION, &[(LIFETIME, &[0; 4])]);
-        assert!(has_a_header(&made));
-        assert!(!has_a_header(&made[..27]) && !has_a_header(&made[..19]) && !has_a_header(b""));
-        for place in [3, 4, 7] {
-            let mut spoiled = made.clone();
-            spoiled[place] ^= 1;
-            assert!(!has_a_header(&spoiled));
-        }
     }
 
     #[test]

@@ -36,25 +36,25 @@ returns-2 : tie.Need-returns-2
 returns-2 c = rw (c .before .before .before .before .before .before .enum-told2 .given .1, ← c .before .before .before .before .client-call .ensures) (own-answers (c .before .before .before .before .before .before .before .before .before .before .args .call) Asked.Refresh (c .before .before .before .has .ensures) (refresh (c .before .before .before .before .client-call .result) (c .before .before .before .before .before .before .before .before .before .before .args .datagram .now)) (c .before .before .refresh .ensures))
 
 returns-3 : tie.Need-returns-3
-returns-3 c = rw (c .before .before .before .before .before .before .enum-told3 .given .1, ← c .before .before .before .before .client-call2 .ensures) (own-answers (c .before .before .before .before .before .before .before .before .before .before .args .call) Asked.CreatePermission (c .before .before .before .has2 .ensures) (createPermission (c .before .before .before .before .client-call2 .result) (c .before .before .before .before .before .before .before .before .before .before .args .datagram .now)) (c .before .before .create-permission .ensures))
+returns-3 c = rw (c .before .before .before .before .before .before .enum-told3 .given .1, ← c .before .before .before .before .client-call2 .ensures) (own-answers (c .before .before .before .before .before .before .before .before .before .before .args .call) Asked.CreatePermission (c .before .before .before .has2 .ensures) (createPermission (c .before .before .before .before .client-call2 .result) (c .before .before .before .before .before .before .before .before .before .before .args .datagram .now) (c .before .before .before .before .before .before .before .before .before .before .args .denied)) (c .before .before .create-permission .ensures))
 
 returns-4 : tie.Need-returns-4
-returns-4 c = rw (c .before .before .before .before .before .before .enum-told4 .given .1, ← c .before .before .before .before .client-call3 .ensures) (own-answers (c .before .before .before .before .before .before .before .before .before .before .args .call) Asked.ChannelBind (c .before .before .before .has3 .ensures) (channelBind (c .before .before .before .before .client-call3 .result) (c .before .before .before .before .before .before .before .before .before .before .args .datagram .now)) (c .before .before .channel-bind .ensures))
+returns-4 c = rw (c .before .before .before .before .before .before .enum-told4 .given .1, ← c .before .before .before .before .client-call3 .ensures) (own-answers (c .before .before .before .before .before .before .before .before .before .before .args .call) Asked.ChannelBind (c .before .before .before .has3 .ensures) (channelBind (c .before .before .before .before .client-call3 .result) (c .before .before .before .before .before .before .before .before .before .before .args .datagram .now) (c .before .before .before .before .before .before .before .before .before .before .args .denied)) (c .before .before .channel-bind .ensures))
 
 returns-5 : tie.Need-returns-5
 returns-5 c =
     let y = ap isData (c .before .enum-told5 .given .1) in
-    rw (c .answer-dropped .ensures) (client-dropped _ _ (c .before .before .before .before .before .pre .1 y) (c .before .before .before .before .before .args .datagram .now) (c .before .before .before .before .before .args .call) (c .before .before .before .before .before .args .asked) y)
+    rw (c .answer-dropped .ensures) (client-dropped _ _ (c .before .before .before .before .before .pre .1 y) (c .before .before .before .before .before .args .datagram .now) _ (c .before .before .before .before .before .args .call) (c .before .before .before .before .before .args .asked) y)
 
 returns-6 : tie.Need-returns-6
 returns-6 c =
     let y = ap isData (c .before .enum-told6 .given .1) in
-    rw (c .answer-dropped2 .ensures) (client-dropped _ _ (c .before .before .before .before .before .pre .1 y) (c .before .before .before .before .before .args .datagram .now) (c .before .before .before .before .before .args .call) (c .before .before .before .before .before .args .asked) y)
+    rw (c .answer-dropped2 .ensures) (client-dropped _ _ (c .before .before .before .before .before .pre .1 y) (c .before .before .before .before .before .args .datagram .now) _ (c .before .before .before .before .before .args .call) (c .before .before .before .before .before .args .asked) y)
 
 returns-7 : tie.Need-returns-7
 returns-7 c =
     let y = ap isData (c .before .enum-told7 .given .1) in
-    rw (c .answer-dropped3 .ensures) (client-dropped _ _ (c .before .before .before .before .before .pre .1 y) (c .before .before .before .before .before .args .datagram .now) (c .before .before .before .before .before .args .call) (c .before .before .before .before .before .args .asked) y)
+    rw (c .answer-dropped3 .ensures) (client-dropped _ _ (c .before .before .before .before .before .pre .1 y) (c .before .before .before .before .before .args .datagram .now) _ (c .before .before .before .before .before .args .call) (c .before .before .before .before .before .args .asked) y)
 
 pub answer-client-spec : {M : Type 1} → statement M
 answer-client-spec =

@@ -12,9 +12,10 @@ pass-peer-requires c κs = ready-peer (c .before .before .call2 .given .1) (c .b
 
 returns : tie.Need-returns
 unfolding decided
-returns c = rw (c .before .before .call .given .1, ← client-asked _ (c .before .before .call .given .1) (c .before .before .before .before .before .before .before .pre .0 .1)) (c .pass-client .ensures (c .before .before .before .before .before .before .before .pre .1) _)
+returns c = rw (c .before .before .call .given .1, ← client-asked _ (c .before .before .call .given .1) (c .before .before .before .before .before .before .before .pre .0 .1)) (c .pass-client .ensures (c .before .before .before .before .before .before .before .pre .1) _ _)
 
 returns-2 : tie.Need-returns-2
+unfolding decided
 returns-2 c = rw (c .before .before .before .before .before .call2 .given .1) (c .before .before .pass-peer .ensures)
 
 pub pass-data-spec : {M : Type 1} → statement M

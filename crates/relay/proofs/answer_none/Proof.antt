@@ -78,7 +78,7 @@ module _ {M : Type 1} (𝓤 : URA M) (H : Heap 𝓤) (A : Atoms 𝓤) (W : Given
 
   -- what the `ensures` says of the result and of the last values
   abbrev Said : Outcome → List Slot → List ℕ → Type 0
-  Said r z-slots z-reply = Answered slots call datagram r z-slots reply z-reply
+  Said r z-slots z-reply = Answered (seen .denied) slots call datagram r z-slots reply z-reply
 
   exits : (r : Outcome) (z-slots : List Slot) (z-reply : List ℕ) → Said r z-slots z-reply → length z-slots ≡ length slots → length z-reply ≡ length reply → Is Outcome-t.the-row r (outcome-row .val r ∷ [])
       → ent 𝓤 (⋆ 𝓤 H A (Own-slots z-slots ∷ t0 ∷ Own-datagram datagram ∷ t1 ∷ Own-reply z-reply ∷ t2 ∷ [])) (Post (outcome-row .val r))
@@ -103,7 +103,7 @@ module _ {M : Type 1} (𝓤 : URA M) (H : Heap 𝓤) (A : Atoms 𝓤) (W : Given
         -- `answer_unfound`
         move ! (4 ∷ 5 ∷ []) $
         move ! (4 ∷ 5 ∷ []) $
-        calls-both ! fm u8 u8 answer-row (answer-unfound.clauses 𝓤 H A mem run) (λ r zs. Answering call (seen .asked) (λ (l : List Slot). decided call datagram l .change) (seen .survey) freshSlot reply zs r) (named 1) (a .1 .1 .1 .0 .ptr .0) (a .1 .1 .1 .0 .ptr .1) datagram (sliceVal (a .1 .1 .1 .0 .ptr) (length datagram)) (named 2) (a .1 .1 .1 .1 .0 .ptr .0) (a .1 .1 .1 .1 .0 .ptr .1) reply (sliceVal (a .1 .1 .1 .1 .0 .ptr) (length reply)) (λ ν. (call, (seen, tt))) (λ ν. (call-row, (seen-row, tt))) (λ ν δ. tt) known-answer-unfound (λ ν. (is-call, (is-seen, tt))) (λ ν δ. (shown 𝓤 H A ((asked .0 .0, asked .0 .1 .asked), asked .1))) (λ ν δ r ws. id⊢ 𝓤 _)
+        calls-both ! fm u8 u8 answer-row (answer-unfound.clauses 𝓤 H A mem run) (λ r zs. Answering call (seen .asked) (λ (l : List Slot). decided (seen .denied) call datagram l .change) (seen .survey) freshSlot reply zs r) (named 1) (a .1 .1 .1 .0 .ptr .0) (a .1 .1 .1 .0 .ptr .1) datagram (sliceVal (a .1 .1 .1 .0 .ptr) (length datagram)) (named 2) (a .1 .1 .1 .1 .0 .ptr .0) (a .1 .1 .1 .1 .0 .ptr .1) reply (sliceVal (a .1 .1 .1 .1 .0 .ptr) (length reply)) (λ ν. (call, (seen, tt))) (λ ν. (call-row, (seen-row, tt))) (λ ν δ. tt) known-answer-unfound (λ ν. (is-call, (is-seen, tt))) (λ ν δ. (shown 𝓤 H A ((asked .0 .0, asked .0 .1 .asked), asked .1))) (λ ν δ r ws. id⊢ 𝓤 _)
         (λ ν δ. (and-then ! (load ! (from ! (stop !)) (look ! 18 refl)) (and-then ! (load ! (from ! (stop !)) (look ! 10 refl)) (and-then ! (load ! (from ! (stop !)) (look ! 22 refl)) (and-then ! (load ! (from ! (stop !)) (look ! 20 refl)) (no-more !)))))) (λ r-answer-unfound zs-answer-unfound l-answer-unfound is-answer-unfound e-answer-unfound. land ! (from ! (stop !)) (init ! 14 refl (answer-typed 𝓤 H A W r-answer-unfound is-answer-unfound)) $
         let decides = e-answer-unfound slots (asked .0 .1 .looked) (slot-missing slots (seen .survey .own) refl (ap not (asked .1)) refl) in
         assigns ! (addr ! (from ! (fld ! refl (hop ! (look-in ! 24 (sub ! 0 refl (whole !))) (stop !))))) (from ! (stop !)) (init ! 8 refl (tt, tt)) $

@@ -80,7 +80,7 @@ module _ {M : Type 1} (𝓤 : URA M) (H : Heap 𝓤) (A : Atoms 𝓤) (W : Given
 
   -- what the `ensures` says of the result and of the last values
   abbrev Said : Outcome → List Slot → List ℕ → Type 0
-  Said r z-slots z-reply = Answered slots call datagram r z-slots reply z-reply
+  Said r z-slots z-reply = Answered (seen .denied) slots call datagram r z-slots reply z-reply
 
   exits : (r : Outcome) (z-slots : List Slot) (z-reply : List ℕ) → Said r z-slots z-reply → length z-slots ≡ length slots → length z-reply ≡ length reply → Is Outcome-t.the-row r (outcome-row .val r ∷ [])
       → ent 𝓤 (⋆ 𝓤 H A (Own-slots z-slots ∷ t0 ∷ Own-datagram datagram ∷ t1 ∷ Own-reply z-reply ∷ t2 ∷ [])) (Post (outcome-row .val r))

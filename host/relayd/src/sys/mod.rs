@@ -3,6 +3,7 @@
 
 pub mod datagrams;
 pub mod epoll;
+pub mod memory;
 pub mod options;
 pub mod signals;
 

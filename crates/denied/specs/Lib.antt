@@ -1,0 +1,5 @@
+pub mod Denied
+pub mod Inner
+pub mod Prefixes
+pub mod Strings
+pub mod Tree
