@@ -1,10 +1,15 @@
--- The laws of `both`, and the law that the last arm of a `match` on a number cites.
+-- The laws of `pick` and `both`, and the law that the last arm of a `match` on a number cites.
 use Prim.Native.Nat.{ℕ}
 use mathlib.Core.Path.{_≡_, refl}
 use mathlib.Core.Bool.{Bool, true, false, false≢true}
 use mathlib.Core.List.{List, [], _∷_}
 use borrow.Author.Tests.{ne-eqb}
-use Rattle.choice.specs.Choice.{both, lookup}
+use Rattle.choice.specs.Choice.{pick, both, lookup}
+
+-- what holds of both values holds of the one that a test picks
+pub chosen : {X : Type 0} (P : X → Type 0) (b : Bool) {x y : X} → (b ≡ true → P x) → (b ≡ false → P y) → P (pick b x y)
+chosen P true f g = f refl
+chosen P false f g = g refl
 
 pub both-parts : (a b : Bool) → both a b ≡ true → (a ≡ true) × (b ≡ true)
 unfolding both

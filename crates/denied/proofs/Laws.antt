@@ -5,18 +5,18 @@ use mathlib.Core.Bool.{Bool, true, false}
 use mathlib.Core.List.{List, [], _∷_, map}
 use native.Mathlib.Omega.{arith}
 use lib.Dec.{eqb}
-use lib.ListN.{length, getD, set, take, drop, drop-of-length-le}
+use lib.ListN.{length, getD, set, take, drop, drop-of-length-le, List·getD-eq-default}
 use lib.Seq.{slice, take-length, drop-cons, drop-drop}
 use borrow.Author.Tests.{lt-ltb, le-ltb, ltb-true, leb-true, eq-eqb, ne-eqb}
 use Rattle.bytes.specs.Bytes as bytes
 use Rattle.bytes.specs.Bytes.{indexOf, indexAfter}
 use Rattle.choice.specs.Choice.{pick}
-use Rattle.choice.proofs.Laws.{both-parts}
+use Rattle.choice.proofs.Laws.{chosen, both-parts}
 use Rattle.text.specs.declared.Parsed.{Parsed}
 use Rattle.text.specs.declared.Parsed.the-variants.{Number, Nothing}
 use Rattle.text.specs.Text.{hexWordOf, decimalOf}
 use Rattle.text.proofs.Laws.{hex-word-only}
-use Rattle.denied.specs.declared.prefixes.Line.the-variants.{Prefix, Bad}
+use Rattle.denied.specs.declared.prefixes.Line.the-variants.{Bad}
 use Rattle.denied.specs.declared.tree.Tree.{Tree}
 use Rattle.denied.specs.declared.tree.Grown.{Grown}
 use Rattle.denied.specs.declared.Step.{Step}
@@ -34,28 +34,19 @@ pub prefix-short : (address length : ℕ) → isPrefix address length ≡ true �
 unfolding isPrefix
 prefix-short address length e = leb-true length 32 (both-parts _ _ e .0)
 
-pub prefix-fits : (address length : Parsed) → LineFits (prefixFrom address length)
-prefix-fits (Number address) (Number length) = go (isPrefix address length) refl
-  where
-    go : (b : Bool) → isPrefix address length ≡ b → LineFits (pick b (Prefix address length) Bad)
-    go true e = prefix-short address length e
-    go false e = tt
-prefix-fits (Number address) Nothing = tt
-prefix-fits Nothing length = tt
+pub prefix-fits : (address length : Parsed) → WordOf address → LineFits (prefixFrom address length)
+prefix-fits (Number address) (Number length) w = chosen LineFits (isPrefix address length) (λ e. (w, prefix-short address length e)) (λ e. tt)
+prefix-fits (Number address) Nothing w = tt
+prefix-fits Nothing length w = tt
 
 -- eight hex digits are a word
 pub word-of : (read : Parsed) (l : List ℕ) → read ≡ hexWordOf l → WordOf read
 word-of (Number n) l e = hex-word-only n l (sym e) .0
 word-of Nothing l e = tt
 
-past-end : (l : List ℕ) (i : ℕ) → length l ≤ i → getD l i 0 ≡ 0
-past-end [] i h = refl
-past-end (x ∷ l) zero h = let y : ⊥ = omega arith in absurd y
-past-end (x ∷ l) (suc i) h = past-end l i (omega arith)
-
 pub short-line : (line : List ℕ) → length line < 9 → Bad ≡ lineOf line
 unfolding lineOf
-short-line line h = rw (past-end line 8 (omega arith))
+short-line line h = rw (List·getD-eq-default line 0 {n = 8} (omega arith))
 
 pub no-tab : (line : List ℕ) → (getD line 8 0 ≡ 9 → ⊥) → Bad ≡ lineOf line
 unfolding lineOf

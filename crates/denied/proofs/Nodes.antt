@@ -13,23 +13,22 @@ use lib.ListN.{length, getD, take, drop, set, replicate, length-replicate}
 use lib.Seq.{getD-set-same, getD-set-other}
 use borrow.Author.Tests.{eq-eqb, ltb-true, ltb-false, eqb-true, eqb-false}
 use Rattle.choice.specs.Choice.{pick}
-use Rattle.text.specs.declared.Parsed.{Parsed}
-use Rattle.text.specs.declared.Parsed.the-variants.{Number, Nothing}
+use Rattle.choice.proofs.Laws.{chosen}
 use Rattle.text.specs.Text.{hexWordOf, decimalOf}
-use Rattle.text.proofs.Laws.{hex-word-only}
 use Rattle.denied.specs.declared.prefixes.Line.{Line}
 use Rattle.denied.specs.declared.prefixes.Line.the-variants.{Prefix, Bad}
 use Rattle.denied.specs.declared.tree.Tree.{Tree}
 use Rattle.denied.specs.declared.tree.Grown.{Grown}
 use Rattle.denied.specs.declared.Step.{Step}
 use Rattle.denied.specs.declared.Reading.{Reading}
-use Rattle.denied.specs.Prefixes.{linesOf, lineOf, isPrefix, prefixFrom}
+use Rattle.denied.specs.Prefixes.{linesOf, lineOf}
+use Rattle.denied.specs.Inner.{LineFits}
 use Rattle.denied.specs.Tree.{childOf, isListed, isChild, bitOf, emptyTree, tree, grow, withPrefix}
 use Rattle.denied.specs.Denied.{onLine, onLines, prefixesOf, taken, readDenied}
 use Rattle.denied.specs.Strings.{BitString, string, emptyString, leading, longer, Leads, Listed, stringAt, StandsFor}
-use Rattle.denied.proofs.Laws.{prefix-short}
+use Rattle.denied.proofs.Laws.{prefix-fits, word-of}
 use Rattle.denied.proofs.Shape.{child-some, Follows, Shape, withChild, child-is, no-child, shape-listed, before, last, more-many, new, different-more, shape-more}
-use Rattle.denied.proofs.Strings.{chosen, member-at, place-of, member-last, longer-leading, bit-small, LeadsTo, leading-none}
+use Rattle.denied.proofs.Strings.{member-at, place-of, member-last, longer-leading, bit-small, LeadsTo, leading-none}
 
 -- ---- Lines and their strings
 
@@ -248,19 +247,14 @@ grow-is lines a n short nodes count node bits (suc left) strings e g =
     (going-more g k deep none (ltb-true count 512 r)))
     (λ r. (withChild strings node (bitOf a k), too-many g k deep none n (omega arith) (ltb-false count 512 r))))
 
--- an address of 32 bits and a length within them
-abbrev pub Fitting : Line → Type 0
-Fitting (Prefix a n) = (a < 2 ^ 32) × (n ≤ 32)
-Fitting Bad = Unit
-
 -- from the first node
-prefix-is : {lines : List Line} {t : Tree} {strings : List BitString} → Stands lines t strings → (a n : ℕ) → Fitting (Prefix a n)
+prefix-is : {lines : List Line} {t : Tree} {strings : List BitString} → Stands lines t strings → (a n : ℕ) → LineFits (Prefix a n)
     → Outcome (lines ++ Prefix a n ∷ []) (withPrefix t a n .fits) (withPrefix t a n .tree)
 unfolding withPrefix
 prefix-is {lines} {t} {strings} s a n f = grow-is lines a n (f .1) (t .nodes) (t .count) 0 0 n strings (omega arith) (going-start a (f .0) s)
 
 -- a line that is taken
-line-is : {lines : List Line} {t : Tree} {strings : List BitString} → Stands lines t strings → (line : Line) → Fitting line → onLine t line .number ≡ 0
+line-is : {lines : List Line} {t : Tree} {strings : List BitString} → Stands lines t strings → (line : Line) → LineFits line → onLine t line .number ≡ 0
     → (more : List BitString) × Stands (lines ++ line ∷ []) (onLine t line .tree) more
 line-is {lines} {t} s (Prefix a n) f e = go (withPrefix t a n .fits) e (prefix-is s a n f)
   where
@@ -273,7 +267,7 @@ line-is s Bad f e = let y : ⊥ = omega arith in absurd y
 -- ---- The lines of a text
 
 -- one line after another
-lines-are : (before lines : List Line) (t : Tree) (strings : List BitString) → Stands before t strings → ((line : Line) → List·Memᴰ line lines → Fitting line)
+lines-are : (before lines : List Line) (t : Tree) (strings : List BitString) → Stands before t strings → ((line : Line) → List·Memᴰ line lines → LineFits line)
     → onLines t lines .number ≡ 0 → (more : List BitString) × Stands (before ++ lines) (onLines t lines .tree) more
 unfolding onLines
 lines-are before [] t strings s f e = (strings, rw append-nil s)
@@ -283,25 +277,20 @@ lines-are before (line ∷ lines) t strings s f e =
     rw append-assoc at (lines-are (before ++ line ∷ []) lines (onLine t line .tree) (p .0) (p .1) (λ x m. f x (List·Memᴰ·tail m)) q))
     (λ z q. absurd (eqb-false (onLine t line .number) 0 z q)) e
 
--- a word of eight hex digits, and a length that is a prefix's
-from-fits : (p q : Parsed) → ((a : ℕ) → p ≡ Number a → a < 2 ^ 32) → Fitting (prefixFrom p q)
-from-fits (Number a) (Number n) f = chosen Fitting (isPrefix a n) (λ e. (f a refl, prefix-short a n e)) (λ e. tt)
-from-fits (Number a) Nothing f = tt
-from-fits Nothing q f = tt
-
--- so each line fits
-line-fits : (line : List ℕ) → Fitting (lineOf line)
+-- each line fits
+line-fits : (line : List ℕ) → LineFits (lineOf line)
 unfolding lineOf
-line-fits line = chosen Fitting (eqb (getD line 8 0) 9) (λ e. from-fits (hexWordOf (take 8 line)) (decimalOf (drop 9 line)) (λ a p. hex-word-only a (take 8 line) p .0)) (λ e. tt)
+line-fits line =
+    chosen LineFits (eqb (getD line 8 0) 9) (λ e. prefix-fits (hexWordOf (take 8 line)) (decimalOf (drop 9 line)) (word-of (hexWordOf (take 8 line)) (take 8 line) refl)) (λ e. tt)
 
 -- and all lines of a text
-pub all-fit : (text : List ℕ) (line : Line) → List·Memᴰ line (prefixesOf text) → Fitting line
+pub all-fit : (text : List ℕ) (line : Line) → List·Memᴰ line (prefixesOf text) → LineFits line
 unfolding prefixesOf
 all-fit text line m = go (linesOf text) m
   where
-    go : (l : List (List ℕ)) → List·Memᴰ line (map lineOf l) → Fitting line
+    go : (l : List (List ℕ)) → List·Memᴰ line (map lineOf l) → LineFits line
     go [] m = absurd (List·Memᴰ·not-nil m)
-    go (x ∷ l) (List·Memᴰ·head e) = subst Fitting (sym e) (line-fits x)
+    go (x ∷ l) (List·Memᴰ·head e) = subst LineFits (sym e) (line-fits x)
     go (x ∷ l) (List·Memᴰ·tail m) = go l m
 
 -- ---- The tree of a text
@@ -335,7 +324,7 @@ none-is n e = record {
     from w (inr p) = absurd (List·Memᴰ·not-nil (p .2))
 
 -- lines that fit and stop nowhere
-tree-is : (lines : List Line) → ((line : Line) → List·Memᴰ line lines → Fitting line) → onLines emptyTree lines .number ≡ 0
+tree-is : (lines : List Line) → ((line : Line) → List·Memᴰ line lines → LineFits line) → onLines emptyTree lines .number ≡ 0
     → (strings : List BitString) × Stands lines (onLines emptyTree lines .tree) strings
 tree-is lines f e = lines-are [] lines emptyTree (emptyString ∷ []) (none-is 1536 refl) f e
 
@@ -406,7 +395,7 @@ nine t (Prefix a n) e = chosen (λ (m : ℕ). m ≡ 9 → Prefix a n ≡ Bad) (w
 nine t Bad e = refl
 
 -- and with 10 a prefix that needs too many strings
-ten : {lines : List Line} {t : Tree} {strings : List BitString} → Stands lines t strings → (line : Line) → Fitting line → onLine t line .number ≡ 10
+ten : {lines : List Line} {t : Tree} {strings : List BitString} → Stands lines t strings → (line : Line) → LineFits line → onLine t line .number ≡ 10
     → (a n : ℕ) × (more : List BitString) × (line ≡ Prefix a n) × TooMany (lines ++ Prefix a n ∷ []) more
 ten {lines} {t} s (Prefix a n) f e = go (withPrefix t a n .fits) e (prefix-is s a n f)
   where
@@ -430,7 +419,7 @@ pub ten-needs-more : (text old : List ℕ) → readDenied text old .number ≡ 1
     × ((w : BitString) → List·Memᴰ w strings → Leads (before ++ Prefix address size ∷ []) w)
 ten-needs-more text old e =
     let s = text-stops text old 10 e (omega arith) in
-    let fits : (line : Line) → List·Memᴰ line (s .before ++ s .line ∷ s .after) → Fitting line = rw (s .are) at (all-fit text) in
+    let fits : (line : Line) → List·Memᴰ line (s .before ++ s .line ∷ s .after) → LineFits line = rw (s .are) at (all-fit text) in
     let p = tree-is (s .before) (λ line m. fits line (Memᴰ·append-left (s .line ∷ s .after) m)) (s .passed) in
     let q = ten (p .1) (s .line) (fits (s .line) (Memᴰ·append-right (s .before) (List·Memᴰ·head refl))) (s .refused) in
     (s .before, s .after, q .0, q .1, q .2, stop-is s (Prefix (q .0) (q .1)) (q .3), q .4 .many, q .4 .different, q .4 .leads)

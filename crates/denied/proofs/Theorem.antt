@@ -10,15 +10,17 @@ use native.Mathlib.Omega.{arith}
 use lib.ListN.{length}
 use borrow.Author.Tests.{eq-eqb, eqb-true}
 use Rattle.choice.specs.Choice.{pick}
+use Rattle.choice.proofs.Laws.{chosen}
 use Rattle.denied.specs.declared.prefixes.Line.{Line}
 use Rattle.denied.specs.declared.prefixes.Line.the-variants.{Prefix, Bad}
 use Rattle.denied.specs.Prefixes.{covers, covered}
+use Rattle.denied.specs.Inner.{LineFits}
 use Rattle.denied.specs.Tree.{childOf, isListed, isChild, bitOf, deniedBelow, denied}
 use Rattle.denied.specs.Denied.{prefixesOf, readDenied}
 use Rattle.denied.specs.Strings.{BitString, string, emptyString, leading, longer, stringAt, StandsFor}
-use Rattle.denied.proofs.Strings.{chosen, place-of, fewer, longer-leading, bit-small, leading-none}
+use Rattle.denied.proofs.Strings.{place-of, fewer, longer-leading, bit-small, leading-none}
 use Rattle.denied.proofs.Shape.{child-some, child-within}
-use Rattle.denied.proofs.Nodes.{Fitting, all-fit, nodes-are}
+use Rattle.denied.proofs.Nodes.{all-fit, nodes-are}
 
 -- two tests that hold in the same cases are one
 same-test : (b c : Bool) → (b ≡ true) ↔ (c ≡ true) → b ≡ c
@@ -61,7 +63,7 @@ covered-from lines a = (λ p. (Prefix (p .0) (p .1), p .2, eq-eqb (p .0 / 2 ^ (3
 -- ---- The lookup
 
 module _ {lines : List Line} {nodes : List ℕ} {count : ℕ} {strings : List BitString} (s : StandsFor lines nodes count strings)
-    (fits : (line : Line) → List·Memᴰ line lines → Fitting line) (a : ℕ) where
+    (fits : (line : Line) → List·Memᴰ line lines → LineFits line) (a : ℕ) where
   -- from the node of the address's first bits
   module _ (bits node : ℕ) (there : node < count) (here : stringAt strings node ≡ leading a bits) where
     -- where the node is listed, a prefix of so many bits covers the address

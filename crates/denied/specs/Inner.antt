@@ -10,7 +10,7 @@ abbrev pub WordOf : Parsed → Type 0
 WordOf (Number n) = n < 2 ^ 32
 WordOf Nothing = Unit
 
--- a length of at most 32 bits
+-- an address of 32 bits and a length within them
 abbrev pub LineFits : Line → Type 0
-LineFits (Prefix address length) = length ≤ 32
+LineFits (Prefix address length) = (address < 2 ^ 32) × (length ≤ 32)
 LineFits Bad = Unit

@@ -8,6 +8,7 @@ use lib.Dec.{eqb}
 use lib.ListN.{length}
 use borrow.Author.Tests.{not-false}
 use Rattle.choice.specs.Choice.{pick}
+use Rattle.choice.proofs.Laws.{chosen}
 use Rattle.address.specs.declared.Address.{Address}
 use Rattle.address.specs.declared.Address.the-variants.{V4}
 use Rattle.address.specs.declared.FiveTuple.{FiveTuple}
@@ -31,11 +32,11 @@ use Rattle.slot.specs.Search.{find, has, atOr}
 use Rattle.slot.specs.Slot.{freshPermission, freshChannel, freshSlot, permissionEntry, permit, channelEntry, bind, numbered}
 use Rattle.table.specs.Table.{slotAt}
 use Rattle.rules.specs.declared.answer.Outcome.the-variants.{ToClient, ToPeer}
-use Rattle.rules.specs.Change.{Out, dropped, toClient, toPeer, Change, keep, write, outOf, respond, errorMessage}
-use Rattle.rules.specs.Values.{lifetime, any, anyUnknown, isIpv6, malformedPeer, ipv6Peer}
+use Rattle.rules.specs.Change.{Out, dropped, toClient, toPeer, Change, keep, write, outOf, respond}
+use Rattle.rules.specs.Values.{any, anyUnknown, isIpv6, malformedPeer, ipv6Peer}
 use Rattle.rules.proofs.Laws.{kept-not-written}
 use Rattle.allocation_rules.specs.declared.Room.{Room}
-use Rattle.allocation_rules.specs.Allocations.{repeats, granted, allocated, toldAgain, newlyMade, allocate, renewed, refresh}
+use Rattle.allocation_rules.specs.Allocations.{repeats, allocated, allocate, renewed, refresh}
 use Rattle.permission_rules.specs.Permissions.{createPermission, bound, channelBind}
 use Rattle.permission_rules.specs.Denials.{deniedAddress, deniedPeer}
 use Rattle.data_rules.specs.Data.{permitted, sentFrom, send, channelledFrom, sendChannelData, relayFromPeer}
@@ -52,10 +53,11 @@ use Rattle.interface.specs.declared.incoming.Call.{Call}
 use Rattle.interface.specs.declared.incoming.Call.the-variants.{Client, Peer}
 use Rattle.interface.specs.declared.incoming.FromClient.{FromClient}
 use Rattle.interface.specs.declared.incoming.FromPeer.{FromPeer}
-use Rattle.interface.specs.Refusals.{timeOf, lengths, refusal}
-use Rattle.state.specs.State.{State, empty, clockOf, atTime, meeting}
+use Rattle.interface.specs.Refusals.{timeOf}
+use Rattle.state.specs.State.{State, empty, atTime, meeting}
 use Rattle.state.specs.Outcomes.{Act, refuse, accept, outcomeOf, stateAfter}
 use Rattle.state.specs.Step.{done, decision, accepted, act}
+use Rattle.state.proofs.Laws.{acted}
 use Rattle.history.specs.Events.{Arrival, met, acts, outcome, Event, Lived}
 use Rattle.history.specs.Statement.{permissionAt, channelAt}
 use Rattle.history.specs.Denied.{AllMeet, KeptOut}
@@ -66,15 +68,14 @@ use Rattle.history.proofs.Tests.{find-some, has-permission→, numbered
 
 -- no call changes the tree
 pub tree-stays : (st : State) (call : Call) (s : List ℕ) (reply : ℕ) → stateAfter st (act st call s reply) .bookkeeping .denied ≡ st .bookkeeping .denied
-unfolding act accepted
-tree-stays st call s reply = go (eqb (refusal (clockOf st) (lengths (length (st .slots)) (length s) reply) call) 0) (decision st call s .place) (decision st call s .change)
+unfolding accepted
+tree-stays st call s reply =
+    acted (λ (x : Act). stateAfter st x .bookkeeping .denied ≡ st .bookkeeping .denied) st call s reply (λ number. refl) (λ e. go (decision st call s .place) (decision st call s .change))
   where
-    go : (b : Bool) (found : Found) (change : Change)
-        → stateAfter st (pick b (done (atTime (timeOf call) st) found change) (refuse (refusal (clockOf st) (lengths (length (st .slots)) (length s) reply) call))) .bookkeeping .denied ≡ st .bookkeeping .denied
-    go true (At k) (keep out) = refl
-    go true (At k) (write slot out) = refl
-    go true Nothing change = refl
-    go false found change = refl
+    go : (found : Found) (change : Change) → stateAfter st (done (atTime (timeOf call) st) found change) .bookkeeping .denied ≡ st .bookkeeping .denied
+    go (At k) (keep out) = refl
+    go (At k) (write slot out) = refl
+    go Nothing change = refl
 
 -- ---- The slots: no permission and no channel is for a denied address
 
@@ -121,11 +122,9 @@ module _ (nodes : List ℕ) where
   peers-permitted : (t : ℕ) (l : List AddressValue) → any (deniedPeer nodes) l ≡ false → MayPermit Clean t l
   unfolding any
   peers-permitted t [] e = tt
-  peers-permitted t (v ∷ l) e = go (deniedPeer nodes v) refl e (peers-permitted t l)
-    where
-      go : (b : Bool) → deniedPeer nodes v ≡ b → pick b true (any (deniedPeer nodes) l) ≡ false → (any (deniedPeer nodes) l ≡ false → MayPermit Clean t l) → MayPermit Clean t (v ∷ l)
-      go true d q rest = absurd (false≢true (sym q))
-      go false d q rest = (permit-clean t (v .peer .address) d, rest q)
+  peers-permitted t (v ∷ l) e =
+      chosen (λ (b : Bool). b ≡ false → MayPermit Clean t (v ∷ l)) (deniedPeer nodes v) (λ d q. absurd (false≢true (sym q)))
+      (λ d q. (permit-clean t (v .peer .address) d, peers-permitted t l q)) e
 
   renewed-clean : (expiry : ℕ) (slot : Slot) → Clean slot → Clean (renewed expiry slot)
   unfolding renewed
@@ -165,26 +164,18 @@ module _ (nodes : List ℕ) where
   Kept (Peer call) (toClient fiveTuple message) = Reachable (call .source .address)
   Kept call (toPeer port peer start len) = Reachable (peer .address)
 
-  permitted-reachable : (t : ℕ) (peer : TransportAddress) (slot : Slot) → Clean slot → permitted t peer slot ≡ true → Reachable (peer .address)
-  unfolding permitted
-  permitted-reachable t peer slot f e =
-      let p = has-permission→ t (peer .address) (slot .permissions) e in
-      rw (p .same) at (f .permissions (p .at) (omega (arith, p .live)))
-
-  -- what a test drops is kept; what it lets pass has to be
-  unless : (call : Call) (b : Bool) (out : Out) → Kept call dropped → (b ≡ false → Kept call out) → Kept call (pick b dropped out)
-  unless call true out d f = d
-  unless call false out d f = f refl
-
   permitted-kept : (t : ℕ) (peer : TransportAddress) (slot : Slot) → Clean slot → not (permitted t peer slot) ≡ false → Reachable (peer .address)
-  permitted-kept t peer slot f n = permitted-reachable t peer slot f (not-false (permitted t peer slot) n)
+  unfolding permitted
+  permitted-kept t peer slot f n =
+      let p = has-permission→ t (peer .address) (slot .permissions) (not-false (permitted t peer slot) n) in
+      rw (p .same) at (f .permissions (p .at) (omega (arith, p .live)))
 
   peer-kept : (call : FromPeer) (s : List ℕ) (own : Bool) (slot : Slot) → Clean slot → Kept (Peer call) (relayFromPeer (call .time) (call .source) (call .id) s own slot)
   unfolding relayFromPeer
   peer-kept call s own slot f =
-      unless (Peer call) (not own) _ tt (λ _.
-      unless (Peer call) (isIpv6 (call .source .address)) _ tt (λ _.
-      unless (Peer call) (not (permitted (call .time) (call .source) slot)) (toClient _ _) tt (permitted-kept (call .time) (call .source) slot f)))
+      chosen (Kept (Peer call)) (not own) (λ _. tt) (λ _.
+      chosen (Kept (Peer call)) (isIpv6 (call .source .address)) (λ _. tt) (λ _.
+      chosen (Kept (Peer call)) (not (permitted (call .time) (call .source) slot)) (λ _. tt) (permitted-kept (call .time) (call .source) slot f)))
 
   module _ (call : FromClient) (s : List ℕ) where
     sent-kept : (slot : Slot) (place : ValuePlace) → Reachable (firstPeer s .peer .address) → Kept (Client call) (sentFrom (asRules call) s slot place)
@@ -194,11 +185,11 @@ module _ (nodes : List ℕ) where
     send-kept : (own : Bool) (slot : Slot) → Clean slot → Kept (Client call) (send (asRules call) s own slot)
     unfolding send
     send-kept own slot f =
-        unless (Client call) (anyUnknown s) _ tt (λ _.
-        unless (Client call) (not own) _ tt (λ _.
-        unless (Client call) (malformedPeer (firstPeer s)) _ tt (λ _.
-        unless (Client call) (ipv6Peer (firstPeer s)) _ tt (λ _.
-        unless (Client call) (not (permitted (call .time) (firstPeer s .peer) slot)) _ tt (λ n.
+        chosen (Kept (Client call)) (anyUnknown s) (λ _. tt) (λ _.
+        chosen (Kept (Client call)) (not own) (λ _. tt) (λ _.
+        chosen (Kept (Client call)) (malformedPeer (firstPeer s)) (λ _. tt) (λ _.
+        chosen (Kept (Client call)) (ipv6Peer (firstPeer s)) (λ _. tt) (λ _.
+        chosen (Kept (Client call)) (not (permitted (call .time) (firstPeer s .peer) slot)) (λ _. tt) (λ n.
         sent-kept slot (firstOf attribute.«data» (attributes s)) (permitted-kept (call .time) (firstPeer s .peer) slot f n))))))
 
     channelled-kept : (own : Bool) (slot : Slot) → Clean slot → Kept (Client call) (sendChannelData (asRules call) s own slot)
@@ -213,26 +204,19 @@ module _ (nodes : List ℕ) where
         leads number Nothing e start len = tt
 
         go : (message : ChannelMessage) → Kept (Client call) (channelledFrom (asRules call) slot own message)
-        go (Data number start len) = unless (Client call) (not own) _ tt (λ _. leads number (find (numbered (call .time) number) (slot .channels)) refl start len)
+        go (Data number start len) = chosen (Kept (Client call)) (not own) (λ _. tt) (λ _. leads number (find (numbered (call .time) number) (slot .channels)) refl start len)
         go Malformed = tt
 
     -- a response goes to its client
     response-kept : (fiveTuple : FiveTuple) (method : Method) (code : ℕ) (accepted : Change) → Kept (Client call) (outOf accepted)
         → Kept (Client call) (outOf (respond fiveTuple method s code accepted))
     unfolding respond
-    response-kept fiveTuple method code accepted f = go (eqb code 0)
-      where
-        go : (b : Bool) → Kept (Client call) (outOf (pick b accepted (keep (toClient fiveTuple (errorMessage method s code)))))
-        go true = f
-        go false = tt
+    response-kept fiveTuple method code accepted f = chosen (λ (x : Change). Kept (Client call) (outOf x)) (eqb code 0) (λ _. f) (λ _. tt)
 
     allocate-kept : (room : Room) (slot : Slot) → Kept (Client call) (outOf (allocate (asRules call) s room slot))
     unfolding allocate
-    allocate-kept room slot = response-kept _ _ _ _ (go (repeats (asRules call) s (room .own) slot))
-      where
-        go : (again : Bool) → Kept (Client call) (outOf (pick again (toldAgain (asRules call) s slot) (newlyMade (asRules call) s (room .port) (granted (lifetime s)))))
-        go true = tt
-        go false = tt
+    allocate-kept room slot =
+        response-kept _ _ _ _ (chosen (λ (x : Change). Kept (Client call) (outOf x)) (repeats (asRules call) s (room .own) slot) (λ _. tt) (λ _. tt))
 
     asked-kept : (barred : Bool) (l : List Slot) → ((i : ℕ) → Clean (slotAt l i)) → (asked : Asked) → Kept (Client call) (outOf (onAsked barred call s l asked .change))
     unfolding refresh createPermission channelBind
@@ -260,20 +244,11 @@ module _ (nodes : List ℕ) where
   done-kept call st Nothing change f = f
 
   act-kept : (st : State) (a : Arrival) → ((i : ℕ) → Clean (slotAt (st .slots) i)) → KeptAct (a .call) (acts st a)
-  unfolding act accepted
-  act-kept st a were = go (eqb number 0)
-    where
-      there : State
-      there = met st a
-
-      number : ℕ
-      number = refusal (clockOf st) (lengths (length (st .slots)) (length (a .datagram)) (length (a .reply))) (a .call)
-
-      go : (b : Bool) → KeptAct (a .call) (pick b (accepted there (a .call) (a .datagram)) (refuse number))
-      go true =
-          done-kept (a .call) (atTime (timeOf (a .call)) there) (decision there (a .call) (a .datagram) .place) (decision there (a .call) (a .datagram) .change)
-          (decided-kept (namesDenied (a .denied) (a .call) (a .datagram)) (a .call) (a .datagram) (st .slots) were)
-      go false = tt
+  unfolding accepted
+  act-kept st a were =
+      acted (KeptAct (a .call)) (met st a) (a .call) (a .datagram) (length (a .reply)) (λ number. tt)
+      (λ e. done-kept (a .call) (atTime (timeOf (a .call)) (met st a)) (decision (met st a) (a .call) (a .datagram) .place) (decision (met st a) (a .call) (a .datagram) .change)
+      (decided-kept (namesDenied (a .denied) (a .call) (a .datagram)) (a .call) (a .datagram) (st .slots) were))
 
   -- ---- Every list of calls
   lived-clean : (list : List Event) (first last : State) → Lived first list last → AllMeet nodes list → ((i : ℕ) → Clean (slotAt (first .slots) i))

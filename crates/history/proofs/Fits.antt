@@ -36,10 +36,11 @@ use Rattle.interface.specs.declared.incoming.Call.{Call}
 use Rattle.interface.specs.declared.incoming.Call.the-variants.{Client, Peer}
 use Rattle.interface.specs.declared.incoming.FromClient.{FromClient}
 use Rattle.state.specs.State.{State, empty, clockOf, atTime}
-use Rattle.state.specs.Outcomes.{refuse, stateAfter}
-use Rattle.interface.specs.Refusals.{timeOf, lengths, refusal}
+use Rattle.state.specs.Outcomes.{Act, stateAfter}
+use Rattle.interface.specs.Refusals.{timeOf}
 use Rattle.decisions.specs.Decisions.{asRules, roomFor, namesDenied, onAsked, decided}
-use Rattle.state.specs.Step.{done, decision, accepted, act}
+use Rattle.state.specs.Step.{done, decision, accepted}
+use Rattle.state.proofs.Laws.{acted}
 use Rattle.decisions.specs.Inner.{Ready}
 use Rattle.client_reader.specs.Fields.{Bytes, AddressFits}
 use Rattle.client_reader.proofs.Ranges.{address-fits}
@@ -203,20 +204,11 @@ done-sized was st (At k) (write slot out) f = (f .0, length-set (st .slots) k sl
 done-sized was st Nothing change f = f
 
 next-sized : (st : State) (a : Arrival) → Sized st → Sized (next st a)
-unfolding act accepted
-next-sized st a f = go (eqb number 0)
-  where
-    there : State
-    there = met st a
-
-    number : ℕ
-    number = refusal (clockOf st) (lengths (length (st .slots)) (length (a .datagram)) (length (a .reply))) (a .call)
-
-    go : (b : Bool) → Sized (stateAfter there (pick b (accepted there (a .call) (a .datagram)) (refuse number)))
-    go true =
-        done-sized there (atTime (timeOf (a .call)) there) (decision there (a .call) (a .datagram) .place) (decision there (a .call) (a .datagram) .change)
-        (time-fits (a .call) (a .call-fits), f .1)
-    go false = f
+unfolding accepted
+next-sized st a f =
+    acted (λ (x : Act). Sized (stateAfter (met st a) x)) (met st a) (a .call) (a .datagram) (length (a .reply)) (λ number. f)
+    (λ e. done-sized (met st a) (atTime (timeOf (a .call)) (met st a)) (decision (met st a) (a .call) (a .datagram) .place) (decision (met st a) (a .call) (a .datagram) .change)
+    (time-fits (a .call) (a .call-fits), f .1))
 
 pub next-fits : (st : State) (a : Arrival) → StateFits st → StateFits (next st a)
 next-fits st a f =

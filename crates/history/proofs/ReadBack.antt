@@ -10,6 +10,7 @@ use lib.ListN.{length, take, drop, set, replicate}
 use lib.Seq.{take-at, getD-set-same}
 use borrow.Author.Tests.{eqb-true, eqb-false}
 use Rattle.choice.specs.Choice.{pick}
+use Rattle.choice.proofs.Laws.{chosen}
 use Rattle.address.specs.declared.Address.{Address}
 use Rattle.address.specs.declared.Address.the-variants.{V4, V6}
 use Rattle.address.specs.declared.FiveTuple.{FiveTuple}
@@ -53,9 +54,10 @@ use Rattle.interface.specs.declared.incoming.FromClient.{FromClient}
 use Rattle.interface.specs.declared.incoming.FromPeer.{FromPeer}
 use Rattle.state.specs.State.{State, empty, clockOf, atTime}
 use Rattle.state.specs.Outcomes.{Act, refuse, accept, outcomeOf, stateAfter, replyAfter}
-use Rattle.interface.specs.Refusals.{timeOf, lengths, refusal}
+use Rattle.interface.specs.Refusals.{timeOf}
 use Rattle.decisions.specs.Decisions.{asRules, ownPlace, slotIn, roomFor, asksDenied, namesDenied, onAsked, decided}
 use Rattle.state.specs.Step.{done, accepted, act}
+use Rattle.state.proofs.Laws.{acted}
 use Rattle.decisions.specs.Inner.{Ready}
 use Rattle.relay.proofs.Laws.{not-refused}
 use Rattle.decisions.proofs.Accepted.{allocates}
@@ -120,10 +122,6 @@ abbrev Readable : ReadMessage → List ℕ → Out → Type 0
 Readable fields payload dropped = Unit
 Readable fields payload (toClient fiveTuple message) = ReadAs fields payload message
 Readable fields payload (toPeer port peer start len) = Unit
-
-unless : (fields : ReadMessage) (payload : List ℕ) (b : Bool) (out : Out) → Readable fields payload out → Readable fields payload (pick b dropped out)
-unless fields payload true out r = tt
-unless fields payload false out r = r
 
 -- a slot that is written stands at its place, and where none is, the slots are as they were
 record Left (before after : List Slot) (place : Found) (change : Change) : Type 0 where
@@ -253,10 +251,11 @@ module _ (s : List ℕ) (bytes : Bytes s) where
     send-readable : Readable nothing [] (send (asRules call) s own slot)
     unfolding send
     send-readable =
-        unless _ _ (anyUnknown s) _
-        (unless _ _ (not own) _
-        (unless _ _ (malformedPeer (firstPeer s)) _
-        (unless _ _ (ipv6Peer (firstPeer s)) _ (unless _ _ (not (permitted (call .time) (firstPeer s .peer) slot)) _ (go (firstOf attribute.«data» (attributes s)))))))
+        chosen (Readable nothing []) (anyUnknown s) (λ _. tt) (λ _.
+        chosen (Readable nothing []) (not own) (λ _. tt) (λ _.
+        chosen (Readable nothing []) (malformedPeer (firstPeer s)) (λ _. tt) (λ _.
+        chosen (Readable nothing []) (ipv6Peer (firstPeer s)) (λ _. tt) (λ _.
+        chosen (Readable nothing []) (not (permitted (call .time) (firstPeer s .peer) slot)) (λ _. tt) (λ _. go (firstOf attribute.«data» (attributes s)))))))
       where
         go : (place : ValuePlace) → Readable nothing [] (sentFrom (asRules call) s slot place)
         go (Value start len) = tt
@@ -268,7 +267,8 @@ module _ (s : List ℕ) (bytes : Bytes s) where
       where
         go : (message : ChannelMessage) → Readable nothing [] (channelledFrom (asRules call) slot own message)
         go (Data number start len) =
-            unless _ _ (not own) _ (unless _ _ (not (has (find (numbered (call .time) number) (slot .channels)))) (toPeer _ _ start len) tt)
+            chosen (Readable nothing []) (not own) (λ _. tt) (λ _.
+            chosen (Readable nothing []) (not (has (find (numbered (call .time) number) (slot .channels)))) (λ _. tt) (λ _. tt))
         go Malformed = tt
 
     asked-readable : ((i : ℕ) → SlotFits (slotAt before i)) → (asked : Asked)
@@ -309,7 +309,10 @@ module _ (call : FromPeer) (s : List ℕ) (fits : CallFits (Peer call)) (few : l
   peer-readable : (own : Bool) (slot : Slot) → Readable (plain (relayedFor call (length s) slot)) s (relayFromPeer (call .time) (call .source) (call .id) s own slot)
   unfolding relayFromPeer
   peer-readable own slot =
-      unless _ _ (not own) _ (unless _ _ (isIpv6 (call .source .address)) _ (unless _ _ (not (permitted (call .time) (call .source) slot)) (toClient _ _) (relayed-back slot)))
+      let back = Readable (plain (relayedFor call (length s) slot)) s in
+      chosen back (not own) (λ _. tt) (λ _.
+      chosen back (isIpv6 (call .source .address)) (λ _. tt) (λ _.
+      chosen back (not (permitted (call .time) (call .source) slot)) (λ _. tt) (λ _. relayed-back slot)))
 
 -- ---- Every call
 
@@ -359,21 +362,15 @@ done-readable denied call s st Nothing (write slot out) w h f = absurd (false≢
 
 act-readable : (st : State) (a : Arrival) → StateFits st
     → ReadableAct (st .bookkeeping .denied) (a .call) (a .datagram) (st .slots) (act st (a .call) (a .datagram) (length (a .reply)))
-unfolding act accepted
-act-readable st a f = go (eqb number 0) refl
-  where
-    number : ℕ
-    number = refusal (clockOf st) (lengths (length (st .slots)) (length (a .datagram)) (length (a .reply))) (a .call)
-
-    go : (b : Bool) → eqb number 0 ≡ b → ReadableAct (st .bookkeeping .denied) (a .call) (a .datagram) (st .slots) (pick b (accepted st (a .call) (a .datagram)) (refuse number))
-    go true e =
-        let denied = st .bookkeeping .denied in
-        let names = namesDenied denied (a .call) (a .datagram) in
-        done-readable denied (a .call) (a .datagram) (atTime (timeOf (a .call)) st) _ _ (decided-within names (a .call) (a .datagram) (st .slots))
-        (decided-writes names (a .call) (a .datagram) (st .slots)) (λ after left.
-        decided-readable denied (a .call) (a .datagram) (a .reply) (st .slots) after (a .call-fits) (a .bytes)
-        (not-refused (clockOf st) (st .slots) (a .datagram) (a .reply) (a .call) (eqb-true number 0 e) .ready) (f .slots) left)
-    go false e = tt
+unfolding accepted
+act-readable st a f =
+    let denied = st .bookkeeping .denied in
+    let names = namesDenied denied (a .call) (a .datagram) in
+    acted (ReadableAct denied (a .call) (a .datagram) (st .slots)) st (a .call) (a .datagram) (length (a .reply)) (λ number. tt)
+    (λ e. done-readable denied (a .call) (a .datagram) (atTime (timeOf (a .call)) st) _ _ (decided-within names (a .call) (a .datagram) (st .slots))
+    (decided-writes names (a .call) (a .datagram) (st .slots)) (λ after left.
+    decided-readable denied (a .call) (a .datagram) (a .reply) (st .slots) after (a .call-fits) (a .bytes)
+    (not-refused (clockOf st) (st .slots) (a .datagram) (a .reply) (a .call) e .ready) (f .slots) left))
 
 -- ---- The theorem
 

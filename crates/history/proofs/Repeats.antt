@@ -9,7 +9,7 @@ use native.Mathlib.Omega.{arith}
 use native.Mathlib.Nat.{le-refl}
 use lib.Dec.{eqb}
 use lib.ListN.{length, take}
-use borrow.Author.Tests.{eqb-true, le-ltb}
+use borrow.Author.Tests.{le-ltb}
 use Rattle.choice.specs.Choice.{pick}
 use Rattle.address.specs.declared.FiveTuple.{FiveTuple}
 use Rattle.stun.specs.declared.kinds.Method.{Method}
@@ -41,6 +41,7 @@ use Rattle.interface.specs.Refusals.{timeOf, lengths, refusal}
 use Rattle.state.specs.State.{State, empty, clockOf, atTime}
 use Rattle.state.specs.Outcomes.{Act, refuse, accept, outcomeOf, replyAfter, stateAfter}
 use Rattle.state.specs.Step.{done, accepted, act}
+use Rattle.state.proofs.Laws.{acted}
 use Rattle.relay.proofs.Laws.{not-refused}
 use Rattle.client_reader.specs.declared.Message.{Message}
 use Rattle.client_reader.specs.declared.Message.the-variants as Reads
@@ -125,8 +126,8 @@ record Answered (st after : State) (C : FiveTuple) (port t seconds : ℕ) : Type
 
 module _ (st : State) (past : List Counted) (I : AccountsFor past st) (typed : StateFits st) (C : FiveTuple) (port t seconds : ℕ) (lasts : granted past C t ≡ true) where
   -- what an act that counts as such a response does
-  abbrev Answers : FromClient → (s reply : List ℕ) → Act → Type 0
-  Answers call s reply x = countsBy (Client call) s (outcomeOf x) (replyAfter reply x) ≡ gave C port t seconds → Answered st (stateAfter st x) C port t seconds
+  abbrev Answers : Call → (s reply : List ℕ) → Act → Type 0
+  Answers call s reply x = countsBy call s (outcomeOf x) (replyAfter reply x) ≡ gave C port t seconds → Answered st (stateAfter st x) C port t seconds
 
   module _ (denied : Bool) (call : FromClient) (s reply : List ℕ) (fits : CallFits (Client call)) (bytes : Bytes s) (not-before : clockOf st ≤ call .time) where
     abbrev now : State
@@ -139,18 +140,18 @@ module _ (st : State) (past : List Counted) (I : AccountsFor past st) (typed : S
     own = slotIn l (ownPlace call l)
 
     -- what is kept and no success is none
-    silent : (place : Found) (out : Out) → Unaccepted out → Answers call s reply (done now place (keep out))
+    silent : (place : Found) (out : Out) → Unaccepted out → Answers (Client call) s reply (done now place (keep out))
     silent place out u = rw (done-keep now place out) (λ q. never (ap isAllocation (u .counts call s reply)) q)
 
     -- the request is no other
-    other : (method : Method) → eqb (requestType Allocate) (requestType method) ≡ false → askedBy s ≡ requestAsks method → (x : Act) → Answers call s reply x
+    other : (method : Method) → eqb (requestType Allocate) (requestType method) ≡ false → askedBy s ≡ requestAsks method → (x : Act) → Answers (Client call) s reply x
     other method differ asked x q =
         let of = outcome-of call s (outcomeOf x) (replyAfter reply x) q in
         clash _ (asks-for method s asked) (asks-no-other Allocate method s differ (of .asked))
 
     -- a repeat is answered from the caller's own slot
     again : (place : Found) → askedBy s ≡ Asked.Allocate → repeats (asRules call) s (has (ownPlace call l)) own ≡ true
-        → Answers call s reply (done now place (toldAgain (asRules call) s own))
+        → Answers (Client call) s reply (done now place (toldAgain (asRules call) s own))
     unfolding secondsLeft atOr
     again place asked same = rw (done-keep now place (outOf (toldAgain (asRules call) s own))) (λ q.
         let f = found-own (call .time) (call .«five_tuple») l (repeats-own _ s _ own same) in
@@ -172,7 +173,7 @@ module _ (st : State) (past : List Counted) (I : AccountsFor past st) (typed : S
           same = rw (← when) refl;
         })
 
-    allocate-answers : (place : Found) → askedBy s ≡ Asked.Allocate → Answers call s reply (done now place (allocate (asRules call) s (roomFor call l) own))
+    allocate-answers : (place : Found) → askedBy s ≡ Asked.Allocate → Answers (Client call) s reply (done now place (allocate (asRules call) s (roomFor call l) own))
     unfolding allocate respond
     allocate-answers place asked = go (eqb code 0) refl (repeats (asRules call) s (has (ownPlace call l)) own) refl
       where
@@ -183,14 +184,14 @@ module _ (st : State) (past : List Counted) (I : AccountsFor past st) (typed : S
         new = newlyMade (asRules call) s (roomFor call l .port) (rules.granted (lifetime s))
 
         -- a new allocation is for a client without a live slot, and so without a lifetime that lasts
-        never-new : allocate (asRules call) s (roomFor call l) own ≡ new → (x : Act) → Answers call s reply x
+        never-new : allocate (asRules call) s (roomFor call l) own ≡ new → (x : Act) → Answers (Client call) s reply x
         never-new w x q =
             let of = outcome-of call s (outcomeOf x) (replyAfter reply x) q in
             let none = none-own (call .time) (call .«five_tuple») l (has-not _ (allocates (asRules call) s _ _ (roomFor call l) own w .new)) in
             clash _ lasts (rw (of .who, of .when) at (no-lifetime _ _ past (accounts-later _ _ _ past not-before I) (call .«five_tuple») none))
 
         go : (b : Bool) → eqb code 0 ≡ b → (r : Bool) → repeats (asRules call) s (has (ownPlace call l)) own ≡ r
-            → Answers call s reply (done now place (pick b (pick r (toldAgain (asRules call) s own) new) (keep (toClient (call .«five_tuple») (errorMessage Allocate s code)))))
+            → Answers (Client call) s reply (done now place (pick b (pick r (toldAgain (asRules call) s own) new) (keep (toClient (call .«five_tuple») (errorMessage Allocate s code)))))
         go true e true same = again place asked same
         go true e false same = never-new (rw (e, same)) (done now place new)
         go false e r same = silent place (toClient (call .«five_tuple») (errorMessage Allocate s code)) (error-unaccepted (call .«five_tuple») Allocate s code)
@@ -198,7 +199,7 @@ module _ (st : State) (past : List Counted) (I : AccountsFor past st) (typed : S
     abbrev doing : Asked → Act
     doing asked = done now (onAsked denied call s l asked .place) (onAsked denied call s l asked .change)
 
-    asked-answers : (asked : Asked) → askedBy s ≡ asked → Answers call s reply (doing asked)
+    asked-answers : (asked : Asked) → askedBy s ≡ asked → Answers (Client call) s reply (doing asked)
     asked-answers Asked.Allocate e = allocate-answers (onAsked denied call s l Asked.Allocate .place) e
     asked-answers Asked.Refresh e = other Refresh refl e (doing Asked.Refresh)
     asked-answers Asked.CreatePermission e = other CreatePermission refl e (doing Asked.CreatePermission)
@@ -208,31 +209,16 @@ module _ (st : State) (past : List Counted) (I : AccountsFor past st) (typed : S
         silent (ownPlace call l) (sendChannelData (asRules call) s (has (ownPlace call l)) own) (channelled-unaccepted (asRules call) s _ _)
     asked-answers Asked.Nothing e = silent Nothing dropped dropped-unaccepted
 
-  call-answered : (call : Call) (s reply : List ℕ) → CallFits call → Bytes s → clockOf st ≤ timeOf call
-      → countsBy call s (outcomeOf (accepted st call s)) (replyAfter reply (accepted st call s)) ≡ gave C port t seconds
-      → Answered st (stateAfter st (accepted st call s)) C port t seconds
+  call-answered : (call : Call) (s reply : List ℕ) → CallFits call → Bytes s → clockOf st ≤ timeOf call → Answers call s reply (accepted st call s)
   unfolding accepted decided
   call-answered (Client call) s reply fits bytes le q = asked-answers _ call s reply fits bytes le (askedBy s) refl q
   call-answered (Peer call) s reply fits bytes le q = never refl q
 
-  abbrev doneBy : Arrival → Act
-  doneBy a = act st (a .call) (a .datagram) (length (a .reply))
-
-  answered-by : (a : Arrival) → countsBy (a .call) (a .datagram) (outcomeOf (doneBy a)) (replyAfter (a .reply) (doneBy a)) ≡ gave C port t seconds
-      → Answered st (stateAfter st (doneBy a)) C port t seconds
-  unfolding act
-  answered-by a = go (eqb number 0) refl
-    where
-      number : ℕ
-      number = refusal (clockOf st) (lengths (length (st .slots)) (length (a .datagram)) (length (a .reply))) (a .call)
-
-      go : (b : Bool) → eqb number 0 ≡ b
-          → countsBy (a .call) (a .datagram) (outcomeOf (pick b (accepted st (a .call) (a .datagram)) (refuse number))) (replyAfter (a .reply) (pick b (accepted st (a .call) (a .datagram)) (refuse number))) ≡ gave C port t seconds
-          → Answered st (stateAfter st (pick b (accepted st (a .call) (a .datagram)) (refuse number))) C port t seconds
-      go true e q =
-          let w = not-refused (clockOf st) (st .slots) (a .datagram) (a .reply) (a .call) (eqb-true number 0 e) in
-          call-answered (a .call) (a .datagram) (a .reply) (a .call-fits) (a .bytes) (w .not-before) q
-      go false e q = never (ap isAllocation (refused-counts (a .call) (a .datagram) number (a .reply))) q
+  answered-by : (a : Arrival) → Answers (a .call) (a .datagram) (a .reply) (act st (a .call) (a .datagram) (length (a .reply)))
+  answered-by a =
+      acted (Answers (a .call) (a .datagram) (a .reply)) st (a .call) (a .datagram) (length (a .reply)) (λ number q. never (ap isAllocation (refused-counts (a .call) (a .datagram) number (a .reply))) q)
+      (λ e q. let w = not-refused (clockOf st) (st .slots) (a .datagram) (a .reply) (a .call) e in
+      call-answered (a .call) (a .datagram) (a .reply) (a .call-fits) (a .bytes) (w .not-before) q)
 
 -- after a list of calls to an empty relay
 repeat-answered : (list : List Event) (st after : State) (e : Event) → Lived empty list st → Happened st e after → (C : FiveTuple) (port t seconds : ℕ)

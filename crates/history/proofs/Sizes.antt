@@ -1,12 +1,12 @@
 -- 'Nothing sent exceeds 1,536 bytes', and 'place of payload' is one in the datagram: of every call, whatever the state and the buffers.
 use Prim.Native.Nat.{ℕ, _+_, _≤_}
-use mathlib.Core.Path.{_≡_, refl}
+use mathlib.Core.Path.{_≡_}
 use mathlib.Core.Bool.{Bool, true, false, not}
 use mathlib.Core.List.{List, []}
 use native.Mathlib.Omega.{arith}
 use lib.Dec.{eqb, ltb, leb}
 use lib.ListN.{length, take, drop, length-take}
-use borrow.Author.Tests.{eqb-true, ltb-false}
+use borrow.Author.Tests.{ltb-false}
 use Rattle.wire.specs.Wire.{partOf}
 use Rattle.choice.specs.Choice.{pick}
 use Rattle.address.specs.declared.TransportAddress.{TransportAddress}
@@ -28,6 +28,7 @@ use Rattle.interface.specs.Refusals.{timeOf, lengths, refusal}
 use Rattle.interface.specs.Sending.{sent}
 use Rattle.decisions.specs.Decisions.{asRules, roomFor, onAsked, decided}
 use Rattle.state.specs.Step.{done, decision, accepted, act}
+use Rattle.state.proofs.Laws.{acted}
 use Rattle.relay.proofs.Laws.{none-of}
 
 -- what an act gives out fits
@@ -63,17 +64,11 @@ not-long clock slots reply s call e =
     ltb-false 1500 (length s) (none-of (ltb 1500 (length s)) 3 _ (b .1) .0)
 
 act-fits : (st : State) (call : Call) (s : List ℕ) (reply : ℕ) → ActFits s (act st call s reply)
-unfolding act accepted
-act-fits st call s reply = go (eqb number 0) refl
-  where
-    number : ℕ
-    number = refusal (clockOf st) (lengths (length (st .slots)) (length s) reply) call
-
-    go : (b : Bool) → eqb number 0 ≡ b → ActFits s (pick b (accepted st call s) (refuse number))
-    go true e =
-        let h = not-long (clockOf st) (length (st .slots)) reply s call (eqb-true number 0 e) in
-        done-fits s (atTime (timeOf call) st) (decision st call s .place) (decision st call s .change) h (decided-fits _ call s (st .slots) h)
-    go false e = tt
+unfolding accepted
+act-fits st call s reply =
+    acted (ActFits s) st call s reply (λ number. tt)
+    (λ e. let h = not-long (clockOf st) (length (st .slots)) reply s call e in
+    done-fits s (atTime (timeOf call) st) (decision st call s .place) (decision st call s .change) h (decided-fits _ call s (st .slots) h))
 
 -- a part of n bytes or none has n bytes at most
 part-short : (b : Bool) (n : ℕ) (l : List ℕ) → length (pick b (take n l) []) ≤ n

@@ -1,12 +1,10 @@
 -- What every call keeps of each slot: a slot that is written has it, and the others had it before.
 use Prim.Native.Nat.{ℕ, zero, suc, _+_}
 use mathlib.Core.Path.{_≡_, refl}
-use mathlib.Core.Bool.{Bool, true, false}
 use mathlib.Core.List.{List, [], _∷_}
 use lib.Dec.{eqb}
 use lib.ListN.{length, getD, set}
-use borrow.Author.Tests.{eqb-true}
-use Rattle.choice.specs.Choice.{pick}
+use Rattle.choice.proofs.Laws.{chosen}
 use Rattle.slot.specs.declared.Slot.{Slot}
 use Rattle.slot.specs.declared.Found.{Found}
 use Rattle.slot.specs.declared.Found.the-variants.{At, Nothing}
@@ -18,10 +16,11 @@ use Rattle.table.specs.Table.{slotAt}
 use Rattle.rules.specs.Change.{Out, Change, keep, write}
 use Rattle.allocation_rules.specs.Allocations.{renewed, refreshed}
 use Rattle.permission_rules.specs.Permissions.{permitPeer, permitAll}
-use Rattle.interface.specs.Refusals.{timeOf, lengths, refusal}
+use Rattle.interface.specs.Refusals.{timeOf}
 use Rattle.state.specs.State.{State, clockOf, atTime}
-use Rattle.state.specs.Outcomes.{refuse, stateAfter}
-use Rattle.state.specs.Step.{done, decision, accepted, act}
+use Rattle.state.specs.Outcomes.{Act, stateAfter}
+use Rattle.state.specs.Step.{done, decision, accepted}
+use Rattle.state.proofs.Laws.{acted}
 use Rattle.relay.proofs.Laws.{Accepted, not-refused}
 use Rattle.history.specs.Events.{Arrival, met, next}
 
@@ -55,22 +54,13 @@ module _ (P : Slot → Type 0) where
     pub permits-keep : (l : List AddressValue) (was slot : Slot) → MayPermit l → P was → P slot → P (permitAll t l was slot .slot)
     unfolding permitAll permitPeer
     permits-keep [] was slot a w f = f
-    permits-keep (v ∷ l) was slot a w f = go (one .ok) (permits-keep l was (one .slot) (a .1) w (a .0 slot f))
-      where
-        one : Placed
-        one = permit t (v .peer .address) slot
-
-        go : (b : Bool) → P (permitAll t l was (one .slot) .slot) → P (pick b (permitAll t l was (one .slot)) (record { ok = false; slot = was }) .slot)
-        go true f = f
-        go false f = w
+    permits-keep (v ∷ l) was slot a w f =
+        let one = permit t (v .peer .address) slot in
+        chosen (λ (x : Placed). P (x .slot)) (one .ok) (λ _. permits-keep l was (one .slot) (a .1) w (a .0 slot f)) (λ _. w)
 
     pub refreshed-keeps : (seconds : ℕ) (slot : Slot) → P freshSlot → P (renewed (t + seconds) slot) → P (refreshed t seconds slot)
     unfolding refreshed
-    refreshed-keeps seconds slot fresh f = go (eqb seconds 0)
-      where
-        go : (b : Bool) → P (pick b freshSlot (renewed (t + seconds) slot))
-        go true = fresh
-        go false = f
+    refreshed-keeps seconds slot fresh f = chosen P (eqb seconds 0) (λ _. fresh) (λ _. f)
 
   -- ---- One call
   abbrev pub Writes : Change → Type 0
@@ -86,17 +76,8 @@ module _ (P : Slot → Type 0) where
   pub next-keeps : (st : State) (a : Arrival) → ((i : ℕ) → P (slotAt (st .slots) i))
       → (Accepted (clockOf st) (a .call) (st .slots) (a .datagram) (a .reply) → Writes (decision (met st a) (a .call) (a .datagram) .change))
       → (i : ℕ) → P (slotAt (next st a .slots) i)
-  unfolding act accepted
-  next-keeps st a f w = go (eqb number 0) refl
-    where
-      there : State
-      there = met st a
-
-      number : ℕ
-      number = refusal (clockOf st) (lengths (length (st .slots)) (length (a .datagram)) (length (a .reply))) (a .call)
-
-      go : (b : Bool) → eqb number 0 ≡ b → (i : ℕ) → P (slotAt (stateAfter there (pick b (accepted there (a .call) (a .datagram)) (refuse number)) .slots) i)
-      go true e =
-          done-keeps there (atTime (timeOf (a .call)) there) (decision there (a .call) (a .datagram) .place) (decision there (a .call) (a .datagram) .change) f
-          (w (not-refused (clockOf st) (st .slots) (a .datagram) (a .reply) (a .call) (eqb-true number 0 e)))
-      go false e = f
+  unfolding accepted
+  next-keeps st a f w =
+      acted (λ (x : Act). (i : ℕ) → P (slotAt (stateAfter (met st a) x .slots) i)) (met st a) (a .call) (a .datagram) (length (a .reply)) (λ number. f)
+      (λ e. done-keeps (met st a) (atTime (timeOf (a .call)) (met st a)) (decision (met st a) (a .call) (a .datagram) .place) (decision (met st a) (a .call) (a .datagram) .change) f
+      (w (not-refused (clockOf st) (st .slots) (a .datagram) (a .reply) (a .call) e)))

@@ -6,9 +6,7 @@ use mathlib.Core.Bool.{Bool, true, false, not}
 use mathlib.Core.List.{List, [], _∷_}
 use native.Mathlib.Omega.{arith}
 use native.Mathlib.Nat.{le-refl, not-suc-le-zero}
-use lib.Dec.{eqb}
 use lib.ListN.{length}
-use borrow.Author.Tests.{eqb-true}
 use Rattle.choice.specs.Choice.{pick}
 use Rattle.address.specs.declared.Address.{Address}
 use Rattle.address.specs.declared.Address.the-variants.{V4, V6}
@@ -34,9 +32,10 @@ use Rattle.interface.specs.declared.incoming.Call.the-variants.{Client, Peer}
 use Rattle.interface.specs.declared.incoming.FromPeer.{FromPeer}
 use Rattle.state.specs.State.{State, empty, clockOf, atTime}
 use Rattle.state.specs.Outcomes.{Act, refuse, accept, outcomeOf, replyAfter, stateAfter}
-use Rattle.interface.specs.Refusals.{timeOf, lengths, refusal}
+use Rattle.interface.specs.Refusals.{timeOf, refusal}
 use Rattle.decisions.specs.Decisions.{namesDenied, onAsked, decided}
 use Rattle.state.specs.Step.{done, decision, accepted, act}
+use Rattle.state.proofs.Laws.{acted}
 use Rattle.relay.proofs.Laws.{not-refused}
 use Rattle.history.specs.Counted.{Counted, nothing, withoutRepeats}
 use Rattle.client_reader.specs.Fields.{Bytes}
@@ -134,21 +133,11 @@ pub data Moved (st : State) (a : Arrival) (x : Act) : Type 0 where
       → Moved st a x
 
 pub moves : (st : State) (a : Arrival) → Moved (met st a) a (acts st a)
-unfolding act
-moves st a = go (eqb number 0) refl
-  where
-    there : State
-    there = met st a
-
-    number : ℕ
-    number = refusal (clockOf st) (lengths (length (st .slots)) (length (a .datagram)) (length (a .reply))) (a .call)
-
-    go : (b : Bool) → eqb number 0 ≡ b → Moved there a (pick b (accepted there (a .call) (a .datagram)) (refuse number))
-    go true e =
-        let w = not-refused (clockOf st) (st .slots) (a .datagram) (a .reply) (a .call) (eqb-true number 0 e) in
-        changed (w .not-before) (clock-accepted there (a .call) (a .datagram))
-        (made (a .call) there (a .datagram) (a .reply) (w .sixty-four) (a .call-fits) (a .bytes))
-    go false e = refused number refl
+moves st a =
+    acted (Moved (met st a) a) (met st a) (a .call) (a .datagram) (length (a .reply)) (λ number. refused number refl)
+    (λ e. let w = not-refused (clockOf st) (st .slots) (a .datagram) (a .reply) (a .call) e in
+    changed (w .not-before) (clock-accepted (met st a) (a .call) (a .datagram))
+    (made (a .call) (met st a) (a .datagram) (a .reply) (w .sixty-four) (a .call-fits) (a .bytes)))
 
 -- so what was counted accounts for the state after it
 after-call : (st : State) (a : Arrival) (past : List Counted) → AccountsFor past st
@@ -220,22 +209,16 @@ module _ (l : List Slot) (t x p R : ℕ) (id : TransactionId) (s : List ℕ)
 module _ (st : State) (past : List Counted) (I : AccountsFor past st) (a : Arrival) (R x t : ℕ) (from : FromAddress a R (V4 x) t)
     (nr : (number : ℕ) → outcome st a ≢ Refused number) where
   reached : (clockOf st ≤ t) × Verdict (st .slots) t R (V4 x) (outcome st a)
-  unfolding act
-  reached = rw (from .2) (go (eqb number 0) refl (rw (from .2) at nr))
+  reached =
+      rw (from .2)
+      (acted (λ (it : Act). ((n : ℕ) → outcomeOf it ≢ Refused n) → (clockOf st ≤ t) × Verdict (st .slots) t R (V4 x) (outcomeOf it)) (met st a) c (a .datagram) (length (a .reply))
+      (λ number none. absurd (none number refl))
+      (λ e none. let le : clockOf st ≤ t = not-refused (clockOf st) (st .slots) (a .datagram) (a .reply) c e .not-before in
+      (le, rw (peer-stays _ (met st a) (a .datagram)) (arrives (st .slots) t x (from .0) R (from .1) (a .datagram) (apart st past I t le .ports))))
+      (rw (from .2) at nr))
     where
       c : Call
       c = Peer (record { time = t; source = record { address = V4 x; port = from .0 }; port = R; id = from .1 })
-
-      number : ℕ
-      number = refusal (clockOf st) (lengths (length (st .slots)) (length (a .datagram)) (length (a .reply))) c
-
-      go : (b : Bool) → eqb number 0 ≡ b
-          → ((n : ℕ) → outcomeOf (pick b (accepted (met st a) c (a .datagram)) (refuse number)) ≢ Refused n)
-          → (clockOf st ≤ t) × Verdict (st .slots) t R (V4 x) (outcomeOf (pick b (accepted (met st a) c (a .datagram)) (refuse number)))
-      go true e nr =
-          let le : clockOf st ≤ t = not-refused (clockOf st) (st .slots) (a .datagram) (a .reply) c (eqb-true number 0 e) .not-before in
-          (le, rw (peer-stays _ (met st a) (a .datagram)) (arrives (st .slots) t x (from .0) R (from .1) (a .datagram) (apart st past I t le .ports)))
-      go false e nr = absurd (nr number refl)
 
   -- the table and the history agree on whom it reaches
   says : (C : FiveTuple) → clockOf st ≤ t → Reach (slotAt (st .slots)) C R (V4 x) t ↔ GoesTo past C R (V4 x) t
@@ -282,19 +265,14 @@ ipv6-out t source id s true slot e = rw e
 ipv6-out t source id s false slot e = refl
 
 pub ipv6-dropped : (st : State) (a : Arrival) (R p q r w t : ℕ) → FromAddress a R (V6 p q r w) t → ((number : ℕ) → outcome st a ≢ Refused number) → outcome st a ≡ Dropped
-unfolding act peer-out
-ipv6-dropped st a R p q r w t from nr = rw (from .2) (go (eqb number 0) (rw (from .2) at nr))
+unfolding peer-out
+ipv6-dropped st a R p q r w t from nr =
+    rw (from .2)
+    (acted (λ (it : Act). ((n : ℕ) → outcomeOf it ≢ Refused n) → outcomeOf it ≡ Dropped) (met st a) (Peer call) (a .datagram) (length (a .reply)) (λ number none. absurd (none number refl))
+    (λ e none. rw (peer-stays call (met st a) (a .datagram)) (ipv6-out t (call .source) (from .1) (a .datagram) (has found) (atOr freshSlot found (st .slots)) refl)) (rw (from .2) at nr))
   where
     call : FromPeer
     call = record { time = t; source = record { address = V6 p q r w; port = from .0 }; port = R; id = from .1 }
 
-    number : ℕ
-    number = refusal (clockOf st) (lengths (length (st .slots)) (length (a .datagram)) (length (a .reply))) (Peer call)
-
     found : Found
     found = find (inSlot (holdsPort t R)) (st .slots)
-
-    go : (b : Bool) → ((n : ℕ) → outcomeOf (pick b (accepted (met st a) (Peer call) (a .datagram)) (refuse number)) ≢ Refused n)
-        → outcomeOf (pick b (accepted (met st a) (Peer call) (a .datagram)) (refuse number)) ≡ Dropped
-    go true nr = rw (peer-stays call (met st a) (a .datagram)) (ipv6-out t (call .source) (from .1) (a .datagram) (has found) (atOr freshSlot found (st .slots)) refl)
-    go false nr = absurd (nr number refl)

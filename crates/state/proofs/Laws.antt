@@ -6,6 +6,7 @@ use mathlib.Core.List.{List}
 use lib.Dec.{eqb}
 use lib.ListN.{length}
 use borrow.Author.Tests.{eqb-true, not-true, not-false}
+use Rattle.choice.proofs.Laws.{chosen}
 use Rattle.slot.specs.declared.Slot.{Slot}
 use Rattle.slot.specs.declared.Found.{Found}
 use Rattle.slot.specs.declared.Found.the-variants.{At, Nothing}
@@ -18,9 +19,17 @@ use Rattle.interface.specs.declared.incoming.Call.{Call}
 use Rattle.interface.specs.declared.refusals.Lengths.{Lengths}
 use Rattle.interface.specs.Refusals.{lengths, refusal}
 use Rattle.state.specs.declared.Bookkeeping.{Bookkeeping}
-use Rattle.state.specs.State.{State, state}
-use Rattle.state.specs.Outcomes.{Act, accept, Does}
+use Rattle.state.specs.State.{State, state, clockOf}
+use Rattle.state.specs.Outcomes.{Act, refuse, accept, Does}
 use Rattle.state.specs.Step.{done, accepted, act, Stepped}
+
+-- a call is refused or accepted: what holds of both acts holds of its own
+pub acted : (P : Act → Type 0) (st : State) (call : Call) (s : List ℕ) (reply : ℕ) → ((number : ℕ) → P (refuse number))
+    → (refusal (clockOf st) (lengths (length (st .slots)) (length s) reply) call ≡ 0 → P (accepted st call s)) → P (act st call s reply)
+unfolding act
+acted P st call s reply refused taken =
+    let number = refusal (clockOf st) (lengths (length (st .slots)) (length s) reply) call in
+    chosen P (eqb number 0) (λ e. taken (eqb-true number 0 e)) (λ e. refused number)
 
 -- refused: everything as it was
 pub refused-step : (slots : List Slot) (kept : Bookkeeping) (call : Call) (s reply : List ℕ) {l : Lengths} {number : ℕ} → l ≡ lengths (length slots) (length s) (length reply)

@@ -5,7 +5,7 @@ use Rattle.denied.proofs.with_line.Statement.{statement}
 use Rattle.denied.proofs.with_line.Tie as tie
 
 with-prefix-requires : tie.Need-with-prefix-requires
-with-prefix-requires c κs = subst LineFits (c .before .address .given .1) (c .before .before .before .line-of .ensures .1)
+with-prefix-requires c κs = subst LineFits (c .before .address .given .1) (c .before .before .before .line-of .ensures .1) .1
 
 returns : tie.Need-returns
 returns c = rw (← c .before .before .before .before .before .before .line-of .ensures .0, c .before .before .before .before .address .given .1, ← c .before .before .with-prefix .ensures, c .if1 .taken)

@@ -14,7 +14,7 @@ prefix-from-requires : tie.Need-prefix-from-requires
 prefix-from-requires c κs = word-of _ _ (c .before .read-hex-word .ensures)
 
 returns-3 : tie.Need-returns-3
-returns-3 c = (c .prefix-from .ensures ∙ tab-line _ (c .before .before .before .if2 .left) (c .before .before .read-hex-word .ensures) (c .before .read-decimal .ensures), rw (c .prefix-from .ensures) (prefix-fits (c .before .before .read-hex-word .result) (c .before .read-decimal .result)))
+returns-3 c = (c .prefix-from .ensures ∙ tab-line _ (c .before .before .before .if2 .left) (c .before .before .read-hex-word .ensures) (c .before .read-decimal .ensures), rw (c .prefix-from .ensures) (prefix-fits (c .before .before .read-hex-word .result) (c .before .read-decimal .result) (word-of _ _ (c .before .before .read-hex-word .ensures))))
 
 pub line-of-spec : {M : Type 1} → statement M
 line-of-spec =
