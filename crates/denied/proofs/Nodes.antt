@@ -359,6 +359,41 @@ nodes-are text old e =
 
 -- ---- A text that is refused
 
+-- with which number a line or a text may be
+abbrev pub Told : ℕ → Type 0
+Told number = (number ≡ 0) ⊎ ((number ≡ 9) ⊎ (number ≡ 10))
+
+line-told : (t : Tree) (line : Line) → Told (onLine t line .number)
+line-told t (Prefix a n) = chosen Told (withPrefix t a n .fits) (λ f. inl refl) (λ f. inr (inr refl))
+line-told t Bad = inr (inl refl)
+
+lines-told : (t : Tree) (lines : List Line) → Told (onLines t lines .number)
+unfolding onLines
+lines-told t [] = inl refl
+lines-told t (line ∷ lines) =
+    chosen (λ (x : Step). Told (x .number)) (eqb (onLine t line .number) 0) (λ z. lines-told (onLine t line .tree) lines) (λ z. line-told t line)
+
+-- a text is taken, or refused with 9 or with 10
+pub text-told : (text old : List ℕ) → Told (readDenied text old .number)
+unfolding readDenied
+text-told text old = rw (taken-number (onLines emptyTree (prefixesOf text)) old) (lines-told emptyTree (prefixesOf text))
+
+-- where it is taken, none of its lines is bad
+lines-good : (t : Tree) (lines : List Line) → onLines t lines .number ≡ 0 → List·Memᴰ Bad lines → ⊥
+unfolding onLines
+lines-good t [] e m = List·Memᴰ·not-nil m
+lines-good t (line ∷ lines) e m =
+    chosen (λ (x : Step). x .number ≡ 0 → ⊥) (eqb (onLine t line .number) 0)
+    (λ z q. go (eqb-true (onLine t line .number) 0 z) (lines-good (onLine t line .tree) lines q) m) (λ z q. eqb-false (onLine t line .number) 0 z q) e
+  where
+    go : onLine t line .number ≡ 0 → (List·Memᴰ Bad lines → ⊥) → List·Memᴰ Bad (line ∷ lines) → ⊥
+    go z rest (List·Memᴰ·head p) = let y : _≡_ {A = ℕ} 9 0 = subst (λ (l : Line). onLine t l .number ≡ 0) (sym p) z in omega arith
+    go z rest (List·Memᴰ·tail m) = rest m
+
+pub text-good : (text old : List ℕ) → readDenied text old .number ≡ 0 → List·Memᴰ Bad (prefixesOf text) → ⊥
+unfolding readDenied
+text-good text old e = lines-good emptyTree (prefixesOf text) (sym (taken-number (onLines emptyTree (prefixesOf text)) old) ∙ e)
+
 -- the line that stops with this number: those before it are taken
 record Stop (t : Tree) (lines : List Line) (number : ℕ) : Type 0 where
   before : List Line

@@ -1,12 +1,16 @@
 -- What the laws of the tree rest on: members of a list, and bit strings.
 use Prim.Native.Nat.{ℕ, zero, suc, _+_, _-_, _*_, _/_, _%_, _^_, _≤_, _<_}
 use mathlib.Core.Path.{_≡_, refl, sym, _∙_, ap, ap₂}
-use mathlib.Core.Logic.{_⊎_, inl, inr, _↔_}
+use mathlib.Core.Logic.{_≢_, _⊎_, inl, inr, _↔_}
+use mathlib.Core.Bool.{Bool, true, false}
 use mathlib.Core.List.{List, [], _∷_, _++_, List·Memᴰ, List·Memᴰ·head, List·Memᴰ·tail, Memᴰ·append-left, Memᴰ·append-right, List·Memᴰ·append-cases, List·Memᴰ·eq-of-singleton}
-use native.Mathlib.Nat.{add-zero, add-suc, pow-suc, div-div-eq-div-mul, mod-lt, zero-lt-suc, not-suc-le-zero, le-of-suc-le-suc}
+use native.Mathlib.Nat.{add-zero, add-suc, pow-suc, div-div-eq-div-mul, mod-lt, zero-lt-suc, lt-suc-self, not-suc-le-zero, le-of-suc-le-suc}
 use native.Mathlib.Omega.{arith}
-use lib.Dec.{lit<}
+use lib.Dec.{eqb, lit<}
 use lib.ListN.{length, getD}
+use borrow.Author.Tests.{eqb-true, eqb-false}
+use Rattle.choice.specs.Choice.{pick}
+use Rattle.choice.proofs.Laws.{chosen}
 use Rattle.denied.specs.Tree.{bitOf}
 use Rattle.denied.specs.Strings.{BitString, string, emptyString, leading, longer}
 
@@ -35,6 +39,51 @@ module _ {A : Type 0} where
       from : List·Memᴰ x l ⊎ (x ≡ y) → List·Memᴰ x (l ++ y ∷ [])
       from (inl m) = Memᴰ·append-left (y ∷ []) m
       from (inr e) = Memᴰ·append-right l (List·Memᴰ·head e)
+
+-- no more than n things have a place below n each, no two the same
+few-places : (m n : ℕ) (place : (i : ℕ) → i < m → ℕ) → ((i : ℕ) (h : i < m) → place i h < n)
+    → ((i j : ℕ) (h : i < m) (l : j < m) → place i h ≡ place j l → i ≡ j) → m ≤ n
+few-places zero n place below one = omega arith
+few-places (suc m) zero place below one = absurd (not-suc-le-zero (below 0 (zero-lt-suc m)))
+few-places (suc m) (suc n) place below one = let less = few-places m n moved moved-below moved-one in omega arith
+  where
+    more : {i : ℕ} → i < m → i < suc m
+    more h = omega arith
+
+    last : ℕ
+    last = place m (lt-suc-self m)
+
+    -- what has the last place goes to that of the last thing
+    moved : (i : ℕ) → i < m → ℕ
+    moved i h = pick (eqb (place i (more h)) n) last (place i (more h))
+
+    moved-below : (i : ℕ) (h : i < m) → moved i h < n
+    moved-below i h =
+        chosen (λ (k : ℕ). k < n) (eqb (place i (more h)) n)
+        (λ e. let apart : last ≢ n = (λ q. let z = one i m (more h) (lt-suc-self m) (eqb-true (place i (more h)) n e ∙ sym q) in omega arith) in
+        let b = below m (lt-suc-self m) in
+        omega arith)
+        (λ e. let apart = eqb-false (place i (more h)) n e in let b = below i (more h) in omega arith)
+
+    moved-one : (i j : ℕ) (h : i < m) (l : j < m) → moved i h ≡ moved j l → i ≡ j
+    moved-one i j h l = go (eqb (place i (more h)) n) refl (eqb (place j (more l)) n) refl
+      where
+        go : (b : Bool) → eqb (place i (more h)) n ≡ b → (c : Bool) → eqb (place j (more l)) n ≡ c
+            → pick b last (place i (more h)) ≡ pick c last (place j (more l)) → i ≡ j
+        go true p true q e = one i j (more h) (more l) (eqb-true (place i (more h)) n p ∙ sym (eqb-true (place j (more l)) n q))
+        go true p false q e = let z = one m j (lt-suc-self m) (more l) e in omega arith
+        go false p true q e = let z = one i m (more h) (lt-suc-self m) e in omega arith
+        go false p false q e = one i j (more h) (more l) e
+
+-- a list without repetitions whose members are all in another is no longer
+pub no-longer : {A : Type 0} (d : A) (l k : List A) → ((i j : ℕ) → i < length l → j < length l → getD l i d ≡ getD l j d → i ≡ j)
+    → ((x : A) → List·Memᴰ x l → List·Memᴰ x k) → length l ≤ length k
+no-longer {A} d l k different within =
+    few-places (length l) (length k) (λ i h. found i h .0) (λ i h. found i h .1)
+    (λ i j h t e. different i j h t (sym (found i h .2) ∙ ap (λ (p : ℕ). getD k p d) e ∙ found j t .2))
+  where
+    found : (i : ℕ) (h : i < length l) → (p : ℕ) × (p < length k) × (getD k p d ≡ getD l i d)
+    found i h = place-of d (within (getD l i d) (member-at l d i h))
 
 -- ---- Bit strings
 

@@ -4,8 +4,8 @@ use Prim.Native.Nat.{ℕ, zero, suc, _+_, _-_, _/_, _^_, _≤_, _<_}
 use mathlib.Core.Path.{_≡_, refl, sym, _∙_, ap}
 use mathlib.Core.Logic.{_⊎_, inl, inr, _↔_, Iff·trans, Iff·symm}
 use mathlib.Core.Bool.{Bool, true, false, false≢true}
-use mathlib.Core.List.{List, [], _∷_, List·Memᴰ, List·Memᴰ·head, List·Memᴰ·tail, List·Memᴰ·not-nil}
-use native.Mathlib.Nat.{eq-or-lt-of-le}
+use mathlib.Core.List.{List, [], _∷_, _++_, List·Memᴰ, List·Memᴰ·head, List·Memᴰ·tail, List·Memᴰ·not-nil, Memᴰ·append-left, Memᴰ·append-right}
+use native.Mathlib.Nat.{eq-or-lt-of-le, le-antisymm}
 use native.Mathlib.Omega.{arith}
 use lib.ListN.{length}
 use borrow.Author.Tests.{eq-eqb, eqb-true}
@@ -17,10 +17,10 @@ use Rattle.denied.specs.Prefixes.{covers, covered}
 use Rattle.denied.specs.Inner.{LineFits}
 use Rattle.denied.specs.Tree.{childOf, isListed, isChild, bitOf, deniedBelow, denied}
 use Rattle.denied.specs.Denied.{prefixesOf, readDenied}
-use Rattle.denied.specs.Strings.{BitString, string, emptyString, leading, longer, stringAt, StandsFor}
-use Rattle.denied.proofs.Strings.{place-of, fewer, longer-leading, bit-small, leading-none}
+use Rattle.denied.specs.Strings.{BitString, string, emptyString, leading, longer, stringAt, Leads, StandsFor}
+use Rattle.denied.proofs.Strings.{place-of, member-last, no-longer, fewer, longer-leading, bit-small, leading-none}
 use Rattle.denied.proofs.Shape.{child-some, child-within}
-use Rattle.denied.proofs.Nodes.{all-fit, nodes-are}
+use Rattle.denied.proofs.Nodes.{all-fit, nodes-are, Told, text-told, text-good, nine-is-bad, ten-needs-more}
 
 -- two tests that hold in the same cases are one
 same-test : (b c : Bool) → (b ≡ true) ↔ (c ≡ true) → b ≡ c
@@ -148,13 +148,76 @@ module _ {lines : List Line} {nodes : List ℕ} {count : ℕ} {strings : List Bi
 pub denied-exactly : (text old : List ℕ) → readDenied text old .number ≡ 0 → (a : ℕ) → a < 2 ^ 32 → denied (readDenied text old .nodes) a ≡ covered (prefixesOf text) a
 denied-exactly text old e a h = denied-is (nodes-are text old e .1) (all-fit text) a h
 
--- texts of the same prefixes, in any order and however often, deny the same addresses
-pub order-and-repetition : (text text′ old old′ : List ℕ) → readDenied text old .number ≡ 0 → readDenied text′ old′ .number ≡ 0
-    → ((line : Line) → List·Memᴰ line (prefixesOf text) ↔ List·Memᴰ line (prefixesOf text′))
-    → (a : ℕ) → a < 2 ^ 32 → denied (readDenied text old .nodes) a ≡ denied (readDenied text′ old′ .nodes) a
-order-and-repetition text text′ old old′ e e′ same a h =
-    denied-exactly text old e a h ∙ same-test (covered (prefixesOf text) a) (covered (prefixesOf text′) a) (Iff·trans (covered-is (prefixesOf text) a) (Iff·trans members (Iff·symm (covered-is (prefixesOf text′) a))))
-    ∙ sym (denied-exactly text′ old′ e′ a h)
+-- ---- The order of the lines, and how often one stands there
+
+-- fewer lines have no other leading strings
+leads-within : {lines lines′ : List Line} → ((line : Line) → List·Memᴰ line lines → List·Memᴰ line lines′) → (w : BitString) → Leads lines w → Leads lines′ w
+leads-within f w (inl e) = inl e
+leads-within f w (inr p) = inr (p .0, p .1, f (Prefix (p .0) (p .1)) (p .2), p .3, p .4)
+
+-- the lines up to one are lines
+front : (before after : List Line) (line last : Line) → List·Memᴰ line (before ++ last ∷ []) → List·Memᴰ line (before ++ last ∷ after)
+front before after line last m = go (member-last before .0 m)
   where
-    members : Covered (prefixesOf text) a ↔ Covered (prefixesOf text′) a
-    members = (λ p. (p .0, same (p .0) .0 (p .1), p .2), λ p. (p .0, same (p .0) .1 (p .1), p .2))
+    go : List·Memᴰ line before ⊎ (line ≡ last) → List·Memᴰ line (before ++ last ∷ after)
+    go (inl x) = Memᴰ·append-left (last ∷ after) x
+    go (inr e) = Memᴰ·append-right before (List·Memᴰ·head e)
+
+-- where each line of a text stands in another that is taken
+module _ (text text′ old old′ : List ℕ) (within : (line : Line) → List·Memᴰ line (prefixesOf text′) → List·Memᴰ line (prefixesOf text))
+    (taken : readDenied text old .number ≡ 0) where
+  -- no more different strings lead in its lines than the other's tree has nodes
+  strings-within : (strings : List BitString) → ((i j : ℕ) → i < length strings → j < length strings → stringAt strings i ≡ stringAt strings j → i ≡ j)
+      → ((w : BitString) → List·Memᴰ w strings → Leads (prefixesOf text′) w) → length strings ≤ readDenied text old .count
+  strings-within strings different leads =
+      let s = nodes-are text old taken in
+      rw (s .1 .as-many) at (no-longer emptyString strings (s .0) different (λ w m. s .1 .leads w .1 (leads-within within w (leads w m))))
+
+  -- so it is taken too
+  taken-too : readDenied text′ old′ .number ≡ 0
+  taken-too = go (text-told text′ old′)
+    where
+      go : Told (readDenied text′ old′ .number) → readDenied text′ old′ .number ≡ 0
+      go (inl e) = e
+      go (inr (inl e)) =
+          let b = nine-is-bad text′ old′ e in
+          absurd (text-good text old taken (within Bad (rw (b .2) (Memᴰ·append-right (b .0) (List·Memᴰ·head refl)))))
+      go (inr (inr e)) =
+          let m = ten-needs-more text′ old′ e in
+          let few = strings-within (m .4) (rw (m .6) (m .7)) (λ w x. leads-within (λ line y. rw (m .5) (front (m .0) (m .1) line (Prefix (m .2) (m .3)) y)) w (m .8 w x)) in
+          let many = m .6 in
+          let most = nodes-are text old taken .1 .at-most in
+          let y : ⊥ = omega arith in
+          absurd y
+
+  -- and its tree has no more nodes
+  nodes-within : readDenied text′ old′ .count ≤ readDenied text old .count
+  nodes-within =
+      let s = nodes-are text′ old′ taken-too in
+      rw (s .1 .as-many) at (strings-within (s .0) (rw (s .1 .as-many) (s .1 .different)) (λ w. s .1 .leads w .0))
+
+-- a text with the same lines as one that is taken, in any order and however often, is taken too, its tree has as many nodes, and it denies the same
+-- addresses
+pub order-and-repetition : (text text′ old old′ : List ℕ) → ((line : Line) → List·Memᴰ line (prefixesOf text) ↔ List·Memᴰ line (prefixesOf text′))
+    → readDenied text old .number ≡ 0
+    → (readDenied text′ old′ .number ≡ 0) × (readDenied text′ old′ .count ≡ readDenied text old .count)
+    × ((a : ℕ) → a < 2 ^ 32 → denied (readDenied text′ old′ .nodes) a ≡ denied (readDenied text old .nodes) a)
+order-and-repetition text text′ old old′ same taken = (too, le-antisymm at-most at-least, answers)
+  where
+    too : readDenied text′ old′ .number ≡ 0
+    too = taken-too text text′ old old′ (λ line. same line .1) taken
+
+    at-most : readDenied text′ old′ .count ≤ readDenied text old .count
+    at-most = nodes-within text text′ old old′ (λ line. same line .1) taken
+
+    at-least : readDenied text old .count ≤ readDenied text′ old′ .count
+    at-least = nodes-within text′ text old′ old (λ line. same line .0) too
+
+    members : (a : ℕ) → Covered (prefixesOf text′) a ↔ Covered (prefixesOf text) a
+    members a = (λ p. (p .0, same (p .0) .1 (p .1), p .2), λ p. (p .0, same (p .0) .0 (p .1), p .2))
+
+    answers : (a : ℕ) → a < 2 ^ 32 → denied (readDenied text′ old′ .nodes) a ≡ denied (readDenied text old .nodes) a
+    answers a h =
+        denied-exactly text′ old′ too a h
+        ∙ same-test (covered (prefixesOf text′) a) (covered (prefixesOf text) a) (Iff·trans (covered-is (prefixesOf text′) a) (Iff·trans (members a) (Iff·symm (covered-is (prefixesOf text) a))))
+        ∙ sym (denied-exactly text old taken a h)
