@@ -1,8 +1,8 @@
 -- Each test of equality says equality: true means equal, and a value equals itself.
 use mathlib.Core.Path.{_≡_, refl}
-use mathlib.Core.Bool.{true, false≢true}
-use borrow.Author.Tests.{eqb-true, eq-eqb}
-use Rattle.choice.proofs.Laws.{both-parts, both-true}
+use mathlib.Core.Bool.{true, false, false≢true}
+use borrow.Author.Tests.{eqb-true, eq-eqb, ne-eqb}
+use Rattle.choice.proofs.Laws.{both-parts, both-true, both-no}
 use Rattle.address.specs.declared.Address.{Address}
 use Rattle.address.specs.declared.Address.the-variants.{V4, V6}
 use Rattle.address.specs.declared.TransportAddress.{TransportAddress}
@@ -29,6 +29,11 @@ unfolding sameAddress
 address-refl (V4 a) = eq-eqb a a refl
 address-refl (V6 a b c d) =
     both-true _ _ (eq-eqb a a refl) (both-true _ _ (eq-eqb b b refl) (both-true _ _ (eq-eqb c c refl) (eq-eqb d d refl)))
+
+-- other ports are other transport addresses
+pub other-port : (a b : TransportAddress) → (a .port ≡ b .port → ⊥) → false ≡ sameTransportAddress a b
+unfolding sameTransportAddress
+other-port a b n = rw (ne-eqb (a .port) (b .port) n, both-no)
 
 pub transport-address-same : (a b : TransportAddress) → sameTransportAddress a b ≡ true → a ≡ b
 unfolding sameTransportAddress

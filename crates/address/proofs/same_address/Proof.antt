@@ -17,7 +17,7 @@ returns-3 c = rw (c .before .before .before .a2 .given .1, c .enum-told2 .given 
 
 returns-4 : tie.Need-returns-4
 unfolding sameAddress
-returns-4 c = rw (c .before .before .before .before .before .before .before .a2 .given .1, c .before .before .before .before .b2 .given .1, ← c .before .before .both .ensures, ← c .before .both2 .ensures, ← c .both3 .ensures)
+returns-4 c = rw (c .before .before .before .before .before .before .before .a2 .given .1, c .before .before .before .before .b2 .given .1, c .both3 .ensures, c .before .both2 .ensures, c .before .before .both .ensures)
 
 pub same-address-spec : {M : Type 1} → statement M
 same-address-spec =

@@ -1,13 +1,13 @@
-use borrow.Author.Tests.{eq-eqb, ne-eqb}
-use Rattle.choice.proofs.Laws.{both-no, both-yes}
+use borrow.Author.Tests.{eq-eqb}
+use Rattle.choice.proofs.Laws.{both-yes}
 use Rattle.address.specs.Address.{sameTransportAddress}
+use Rattle.address.proofs.Laws.{other-port}
 use borrow.Author.Needs.{needs}
 use Rattle.address.proofs.same_transport_address.Statement.{statement}
 use Rattle.address.proofs.same_transport_address.Tie as tie
 
 returns : tie.Need-returns
-unfolding sameTransportAddress
-returns c = rw (ne-eqb _ _ (c .if1 .taken), both-no)
+returns c = other-port _ _ (c .if1 .taken)
 
 returns-2 : tie.Need-returns-2
 unfolding sameTransportAddress

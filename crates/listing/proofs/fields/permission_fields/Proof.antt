@@ -1,4 +1,6 @@
-use mathlib.Core.Path.{sym, _∙_}
+use mathlib.Core.Path.{_≡_, sym, _∙_}
+use mathlib.Core.Bool.{true}
+use Rattle.slot.specs.Slot.{livePermission}
 use Rattle.text.specs.Text.{lineText}
 use Rattle.listing.specs.Texts.{texts}
 use Rattle.listing.specs.Inner.{fieldText, fieldsText}
@@ -9,7 +11,7 @@ use Rattle.listing.proofs.fields.permission_fields.Tie as tie
 
 returns : tie.Need-returns
 unfolding lineText texts fieldText fieldsText permissionLine
-returns c = rw (sym (c .before .permission-is-live .ensures) ∙ c .if1 .taken)
+returns c = let live : livePermission (c .before .before .args .clock) (c .before .before .args .permission) ≡ true = sym (c .before .permission-is-live .ensures) ∙ c .if1 .taken in rw live
 
 returns-2 : tie.Need-returns-2
 unfolding lineText texts fieldText fieldsText permissionLine
