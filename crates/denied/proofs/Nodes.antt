@@ -359,7 +359,7 @@ nodes-are text old e =
 
 -- ---- A text that is refused
 
--- with which number a line or a text may be
+-- the numbers that a line or a text is answered with: 0 where it is taken
 abbrev pub Told : ℕ → Type 0
 Told number = (number ≡ 0) ⊎ ((number ≡ 9) ⊎ (number ≡ 10))
 
@@ -378,7 +378,7 @@ pub text-told : (text old : List ℕ) → Told (readDenied text old .number)
 unfolding readDenied
 text-told text old = rw (taken-number (onLines emptyTree (prefixesOf text)) old) (lines-told emptyTree (prefixesOf text))
 
--- where it is taken, none of its lines is bad
+-- where lines are taken, none of them is bad
 lines-good : (t : Tree) (lines : List Line) → onLines t lines .number ≡ 0 → List·Memᴰ Bad lines → ⊥
 unfolding onLines
 lines-good t [] e m = List·Memᴰ·not-nil m
@@ -390,6 +390,7 @@ lines-good t (line ∷ lines) e m =
     go z rest (List·Memᴰ·head p) = let y : _≡_ {A = ℕ} 9 0 = subst (λ (l : Line). onLine t l .number ≡ 0) (sym p) z in omega arith
     go z rest (List·Memᴰ·tail m) = rest m
 
+-- and so in a text
 pub text-good : (text old : List ℕ) → readDenied text old .number ≡ 0 → List·Memᴰ Bad (prefixesOf text) → ⊥
 unfolding readDenied
 text-good text old e = lines-good emptyTree (prefixesOf text) (sym (taken-number (onLines emptyTree (prefixesOf text)) old) ∙ e)
