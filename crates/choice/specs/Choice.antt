@@ -1,4 +1,4 @@
--- Choices by tests: one of two values, both of two tests, and what a table has for a number.
+-- Choices by tests: one of two values, both of two tests, a test of some member, and what a table has for a number.
 use Prim.Native.Nat.{ℕ}
 use mathlib.Core.Bool.{Bool, true, false}
 use mathlib.Core.List.{List, [], _∷_}
@@ -13,6 +13,11 @@ pick false x y = y
 unfoldable pub both : Bool → Bool → Bool
 both true b = b
 both false b = false
+
+-- whether a test holds of some member
+unfoldable pub any : {X : Type 0} → (X → Bool) → List X → Bool
+any test [] = false
+any test (x ∷ rest) = pick (test x) true (any test rest)
 
 -- what a table has for n, or d where it has nothing
 abbrev pub lookup : {X : Type 0} → ℕ → List (ℕ × X) → X → X

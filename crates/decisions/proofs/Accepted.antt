@@ -6,7 +6,7 @@ use mathlib.Core.List.{List}
 use native.Mathlib.Omega.{arith}
 use lib.Dec.{eqb, leb}
 use borrow.Author.Tests.{eqb-true, not-false}
-use Rattle.choice.specs.Choice.{pick}
+use Rattle.choice.specs.Choice.{pick, any}
 use Rattle.address.specs.declared.FiveTuple.{FiveTuple}
 use Rattle.address.specs.declared.TransportAddress.{TransportAddress}
 use Rattle.stun.specs.declared.kinds.Method.{Method}
@@ -20,7 +20,7 @@ use Rattle.slot.specs.Slot.{isChannelNumber, numberTaken, peerTaken, permit, bi
 use Rattle.rules.specs.declared.requests.ClientCall.{ClientCall}
 use Rattle.allocation_rules.specs.declared.Room.{Room}
 use Rattle.rules.specs.Change.{Out, toClient, Change, keep, write, check, respond, errorMessage}
-use Rattle.rules.specs.Values.{lifetime, channelNumber, numberGiven, isIpv6, any, ipv6Peer}
+use Rattle.rules.specs.Values.{lifetime, channelNumber, numberGiven, isIpv6, ipv6Peer}
 use Rattle.rules.specs.Requests.{requestCode, ownCode}
 use Rattle.rules.proofs.Laws.{kept-not-written}
 use Rattle.allocation_rules.specs.Allocations.{repeats, allocateCode, allocated, allocateReply, allocate, refreshCode, refreshed, refresh, granted, grantedRefresh}

@@ -12,6 +12,7 @@ use lib.Dec.{eqb, ltb, lit<}
 use lib.ListN.{length, getD, take, drop, set, replicate, length-replicate}
 use lib.Seq.{getD-set-same, getD-set-other}
 use borrow.Author.Tests.{eq-eqb, ltb-true, ltb-false, eqb-true, eqb-false}
+use Rattle.wire.proofs.Laws.{all-same}
 use Rattle.choice.specs.Choice.{pick}
 use Rattle.choice.proofs.Laws.{chosen}
 use Rattle.text.specs.Text.{hexWordOf, decimalOf}
@@ -95,10 +96,10 @@ record Going (lines : List Line) (a bits : ℕ) (nodes : List ℕ) (count node :
   here : stringAt strings node ≡ leading a bits
 
 -- 513 different strings are needed
-record TooMany (lines : List Line) (strings : List BitString) : Type 0 where
-  many : length strings ≡ 513
-  different : (i j : ℕ) → i < 513 → j < 513 → stringAt strings i ≡ stringAt strings j → i ≡ j
-  leads : (w : BitString) → List·Memᴰ w strings → Leads lines w
+pub record TooMany (lines : List Line) (strings : List BitString) : Type 0 where
+  pub many : length strings ≡ 513
+  pub different : (i j : ℕ) → i < 513 → j < 513 → stringAt strings i ≡ stringAt strings j → i ≡ j
+  pub leads : (w : BitString) → List·Memᴰ w strings → Leads lines w
 
 -- the way begins at the first node
 going-start : {lines : List Line} {t : Tree} {strings : List BitString} (a : ℕ) → a < 2 ^ 32 → Stands lines t strings → Going lines a 0 (t .nodes) (t .count) 0 strings
@@ -295,12 +296,6 @@ all-fit text line m = go (linesOf text) m
 
 -- ---- The tree of a text
 
--- a tree of zeros
-zeros : (n i : ℕ) → _≡_ {A = ℕ} (getD (replicate n 0) i 0) 0
-zeros zero i = refl
-zeros (suc n) zero = refl
-zeros (suc n) (suc i) = zeros n i
-
 -- no line: the empty string's node alone
 none-is : (n : ℕ) → n ≡ 1536 → Stands [] (tree (replicate n 0) 1) (emptyString ∷ [])
 none-is n e = record {
@@ -309,14 +304,14 @@ none-is n e = record {
     some = lit< tt;
     at-most = omega arith;
     long = length-replicate n 0 ∙ e;
-    fresh = λ i h. zeros n i;
+    fresh = λ i h. all-same {A = ℕ} 0 n i;
     first = refl;
     different = λ i j h l q. omega arith;
-    children = λ k bit h l x. let z = zeros n (3 * k + bit) in let y : ⊥ = omega arith in absurd y;
+    children = λ k bit h l x. let z = all-same {A = ℕ} 0 n (3 * k + bit) in let y : ⊥ = omega arith in absurd y;
     parent = λ j p h. let y : ⊥ = omega arith in absurd y;
   };
   leads = λ w. (λ m. inl (List·Memᴰ·eq-of-singleton m), from w);
-  listed = λ k h. rw (zeros n (3 * k + 2)) (λ x. absurd (false≢true x), λ x. absurd (List·Memᴰ·not-nil (x .2)));
+  listed = λ k h. rw (all-same {A = ℕ} 0 n (3 * k + 2)) (λ x. absurd (false≢true x), λ x. absurd (List·Memᴰ·not-nil (x .2)));
 }
   where
     from : (w : BitString) → Leads [] w → List·Memᴰ w (emptyString ∷ [])
@@ -451,11 +446,10 @@ nine-is-bad text old e =
 -- where 10 is answered, the lines up to one have 513 different leading strings
 pub ten-needs-more : (text old : List ℕ) → readDenied text old .number ≡ 10
     → (before after : List Line) × (address size : ℕ) × (strings : List BitString) × (prefixesOf text ≡ before ++ Prefix address size ∷ after)
-    × (length strings ≡ 513) × ((i j : ℕ) → i < 513 → j < 513 → stringAt strings i ≡ stringAt strings j → i ≡ j)
-    × ((w : BitString) → List·Memᴰ w strings → Leads (before ++ Prefix address size ∷ []) w)
+    × TooMany (before ++ Prefix address size ∷ []) strings
 ten-needs-more text old e =
     let s = text-stops text old 10 e (omega arith) in
     let fits : (line : Line) → List·Memᴰ line (s .before ++ s .line ∷ s .after) → LineFits line = rw (s .are) at (all-fit text) in
     let p = tree-is (s .before) (λ line m. fits line (Memᴰ·append-left (s .line ∷ s .after) m)) (s .passed) in
     let q = ten (p .1) (s .line) (fits (s .line) (Memᴰ·append-right (s .before) (List·Memᴰ·head refl))) (s .refused) in
-    (s .before, s .after, q .0, q .1, q .2, stop-is s (Prefix (q .0) (q .1)) (q .3), q .4 .many, q .4 .different, q .4 .leads)
+    (s .before, s .after, q .0, q .1, q .2, stop-is s (Prefix (q .0) (q .1)) (q .3), q .4)

@@ -9,7 +9,7 @@ use native.Mathlib.Nat.{eq-or-lt-of-le, le-antisymm}
 use native.Mathlib.Omega.{arith}
 use lib.ListN.{length}
 use borrow.Author.Tests.{eq-eqb, eqb-true}
-use Rattle.choice.specs.Choice.{pick}
+use Rattle.choice.specs.Choice.{pick, any}
 use Rattle.choice.proofs.Laws.{chosen}
 use Rattle.denied.specs.declared.prefixes.Line.{Line}
 use Rattle.denied.specs.declared.prefixes.Line.the-variants.{Prefix, Bad}
@@ -36,7 +36,7 @@ Covered lines a = (line : Line) × List·Memᴰ line lines × (covers line a ≡
 
 -- that is what the test says
 covered-is : (lines : List Line) (a : ℕ) → (covered lines a ≡ true) ↔ Covered lines a
-unfolding covered
+unfolding covered any
 covered-is [] a = (λ e. absurd (false≢true e), λ p. absurd (List·Memᴰ·not-nil (p .1)))
 covered-is (line ∷ lines) a = (to (covered-is lines a .0), λ p. from (covered-is lines a .1) (p .0) (p .2) (p .1))
   where
@@ -184,8 +184,8 @@ module _ (text text′ old old′ : List ℕ) (within : (line : Line) → List·
           absurd (text-good text old taken (within Bad (rw (b .2) (Memᴰ·append-right (b .0) (List·Memᴰ·head refl)))))
       go (inr (inr e)) =
           let m = ten-needs-more text′ old′ e in
-          let few = strings-within (m .4) (rw (m .6) (m .7)) (λ w x. leads-within (λ line y. rw (m .5) (front (m .0) (m .1) line (Prefix (m .2) (m .3)) y)) w (m .8 w x)) in
-          let many = m .6 in
+          let many = m .6 .many in
+          let few = strings-within (m .4) (rw many (m .6 .different)) (λ w x. leads-within (λ line y. rw (m .5) (front (m .0) (m .1) line (Prefix (m .2) (m .3)) y)) w (m .6 .leads w x)) in
           let most = nodes-are text old taken .1 .at-most in
           let y : ⊥ = omega arith in
           absurd y

@@ -1,11 +1,11 @@
 -- Request 2's text: 'denied IPv4 prefixes, one a line, an address and a length from 0 to 32 written as in the listing, bits after the length
 -- zero'; and which addresses a prefix covers, said of the numbers.
 use Prim.Native.Nat.{ℕ, _-_, _/_, _%_, _^_}
-use mathlib.Core.Bool.{Bool, true, false}
+use mathlib.Core.Bool.{Bool, false}
 use mathlib.Core.List.{List, [], _∷_}
 use lib.Dec.{eqb, leb}
 use lib.ListN.{getD, take, drop}
-use Rattle.choice.specs.Choice.{pick, both}
+use Rattle.choice.specs.Choice.{pick, both, any}
 use Rattle.text.specs.declared.Parsed.{Parsed}
 use Rattle.text.specs.declared.Parsed.the-variants.{Number, Nothing}
 use Rattle.text.specs.Text.{hexWordOf, decimalOf}
@@ -42,5 +42,4 @@ covers Bad a = false
 
 -- 'denied exactly if some listed prefix covers it'
 unfoldable pub covered : List Line → ℕ → Bool
-covered [] a = false
-covered (line ∷ lines) a = pick (covers line a) true (covered lines a)
+covered lines a = any (λ (line : Line). covers line a) lines

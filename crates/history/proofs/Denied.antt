@@ -7,7 +7,8 @@ use native.Mathlib.Omega.{arith}
 use lib.Dec.{eqb}
 use lib.ListN.{length}
 use borrow.Author.Tests.{not-false}
-use Rattle.choice.specs.Choice.{pick}
+use Rattle.wire.proofs.Laws.{all-same}
+use Rattle.choice.specs.Choice.{pick, any}
 use Rattle.choice.proofs.Laws.{chosen}
 use Rattle.address.specs.declared.Address.{Address}
 use Rattle.address.specs.declared.Address.the-variants.{V4}
@@ -33,7 +34,7 @@ use Rattle.slot.specs.Slot.{freshPermission, freshChannel, freshSlot, permissio
 use Rattle.table.specs.Table.{slotAt}
 use Rattle.rules.specs.declared.answer.Outcome.the-variants.{ToClient, ToPeer}
 use Rattle.rules.specs.Change.{Out, dropped, toClient, toPeer, Change, keep, write, outOf, respond}
-use Rattle.rules.specs.Values.{any, anyUnknown, isIpv6, malformedPeer, ipv6Peer}
+use Rattle.rules.specs.Values.{anyUnknown, isIpv6, malformedPeer, ipv6Peer}
 use Rattle.rules.proofs.Laws.{kept-not-written}
 use Rattle.allocation_rules.specs.declared.Room.{Room}
 use Rattle.allocation_rules.specs.Allocations.{repeats, allocated, allocate, renewed, refresh}
@@ -62,7 +63,6 @@ use Rattle.history.specs.Events.{Arrival, met, acts, outcome, Event, Liv
 use Rattle.history.specs.Statement.{permissionAt, channelAt}
 use Rattle.history.specs.Denied.{AllMeet, KeptOut}
 use Rattle.history.proofs.Demand.{lived-middle}
-use Rattle.history.proofs.Entries.{all-fresh}
 use Rattle.history.proofs.Slots.{place-keeps, found-keeps, MayPermit, permits-keep, refreshed-keeps, Writes, next-keeps}
 use Rattle.history.proofs.Tests.{find-some, has-permission→, numbered-is}
 
@@ -100,8 +100,8 @@ module _ (nodes : List ℕ) where
   fresh-clean : Clean freshSlot
   unfolding freshSlot
   fresh-clean = record {
-    permissions = λ i. rw (all-fresh freshPermission 8 i) never-made;
-    channels = λ i. rw (all-fresh freshChannel 8 i) never-made;
+    permissions = λ i. rw (all-same freshPermission 8 i) never-made;
+    channels = λ i. rw (all-same freshChannel 8 i) never-made;
   }
 
   permit-clean : (t : ℕ) (a : Address) → Reachable a → (slot : Slot) → Clean slot → Clean (permit t a slot .slot)
@@ -293,5 +293,5 @@ kept-out text old tree taken list last lived meet before after e split x fits co
     let nodes = readDenied text old .nodes in
     let first = meeting tree empty in
     let m = lived-middle before (e ∷ after) first last (rw split at lived) in
-    let were = lived-clean nodes before first (m .0) (m .1) (meet-before nodes before (e ∷ after) (rw split at meet)) (λ i. rw (all-fresh freshSlot 64 i) (fresh-clean nodes)) in
+    let were = lived-clean nodes before first (m .0) (m .1) (meet-before nodes before (e ∷ after) (rw split at meet)) (λ i. rw (all-same freshSlot 64 i) (fresh-clean nodes)) in
     event-kept nodes x (denied-exactly text old taken x fits ∙ covers) (m .0) e (m .2 .1 .outcome-is) were

@@ -1,5 +1,5 @@
 -- What an accepted permission or channel does to the entries of a slot.
-use Prim.Native.Nat.{ℕ, zero, suc, _+_, _<_, _≤_, zero-le}
+use Prim.Native.Nat.{ℕ, _+_, _<_, _≤_, zero-le}
 use mathlib.Core.Path.{_≡_, refl, sym, _∙_}
 use mathlib.Core.Logic.{_≢_, _⊎_, inl, inr}
 use mathlib.Core.Bool.{Bool, true, false, not, false≢true}
@@ -7,9 +7,10 @@ use mathlib.Core.List.{List, [], _∷_, List·Memᴰ, List·Memᴰ·head, List·
 use native.Mathlib.Omega.{arith}
 use native.Mathlib.Nat.{le-refl, not-suc-le-zero}
 use lib.Dec.{eqb}
-use lib.ListN.{length, set, replicate, getD}
+use lib.ListN.{length, set, replicate}
 use lib.Seq.{getD-set-same, getD-set-other}
 use borrow.Author.Tests.{eqb-true, not-false}
+use Rattle.wire.proofs.Laws.{all-same}
 use Rattle.choice.specs.Choice.{pick, both}
 use Rattle.address.specs.declared.Address.{Address}
 use Rattle.address.specs.declared.TransportAddress.{TransportAddress}
@@ -280,20 +281,14 @@ bound-admitted t n p was taken ok ok′ =
         neat ne = rw (x .channels-are) (bind-neat t n p (was .channels) m taken (rw (x .channels-are) at e) ne)
 
 -- ---- A fresh slot
--- where every entry is fresh, each is, and what stands past the end too
-pub all-fresh : {A : Type 0} (fresh : A) (n j : ℕ) → getD (replicate n fresh) j fresh ≡ fresh
-all-fresh fresh zero j = refl
-all-fresh fresh (suc n) zero = refl
-all-fresh fresh (suc n) (suc j) = all-fresh fresh n j
-
 pub fresh-bare : (n : ℕ) (a : Address) (t : ℕ) → HasPermission t a (replicate n freshPermission) → ⊥
-fresh-bare n a t p = not-suc-le-zero (rw (all-fresh freshPermission n (p .at)) at (p .live))
+fresh-bare n a t p = not-suc-le-zero (rw (all-same freshPermission n (p .at)) at (p .live))
 
 pub fresh-neat : (n m t : ℕ) → Neat t (replicate n freshPermission) (replicate m freshChannel)
 fresh-neat n m t = record {
-  perms = record { one-perm = λ i j x y e. absurd (not-suc-le-zero (rw (all-fresh freshPermission n i) at x)); short = λ j. rw (all-fresh freshPermission n j) zero-le };
+  perms = record { one-perm = λ i j x y e. absurd (not-suc-le-zero (rw (all-same freshPermission n i) at x)); short = λ j. rw (all-same freshPermission n j) zero-le };
   chans = record {
-    one-num = λ i j x y e. absurd (not-suc-le-zero (rw (all-fresh freshChannel m i) at (x .0)));
-    one-peer = λ i j x y e. absurd (not-suc-le-zero (rw (all-fresh freshChannel m i) at (x .0)));
+    one-num = λ i j x y e. absurd (not-suc-le-zero (rw (all-same freshChannel m i) at (x .0)));
+    one-peer = λ i j x y e. absurd (not-suc-le-zero (rw (all-same freshChannel m i) at (x .0)));
   };
 }

@@ -7,6 +7,7 @@ use native.Mathlib.Omega.{arith}
 use lib.Dec.{eqb, lit<}
 use lib.ListN.{length, length-set}
 use borrow.Author.Tests.{leb-true}
+use Rattle.wire.proofs.Laws.{all-same}
 use Rattle.choice.specs.Choice.{pick}
 use Rattle.choice.proofs.Laws.{both-parts}
 use Rattle.address.specs.declared.Address.{Address}
@@ -46,7 +47,6 @@ use Rattle.client_reader.specs.Fields.{Bytes, AddressFits}
 use Rattle.client_reader.proofs.Ranges.{address-fits}
 use Rattle.history.specs.Events.{TransportFits, CallFits, Arrival, met, next, Event, Lived}
 use Rattle.history.specs.Fits.{PermissionFits, ChannelFits, SlotFits, StateFits}
-use Rattle.history.proofs.Entries.{all-fresh}
 use Rattle.history.proofs.Slots.{place-keeps, found-keeps, MayPermit, permits-keep, refreshed-keeps, Writes, next-keeps}
 use Rattle.history.proofs.FreePort.{port-fits}
 use Rattle.history.proofs.Replies.{id-fits}
@@ -64,9 +64,9 @@ fresh-fits = record {
   allocation = record { user = lit< tt; client = (lit< tt, lit< tt); server = (lit< tt, lit< tt); protocol = lit< tt; port = lit< tt; expiry = lit< tt };
   transaction-id = (lit< tt, lit< tt, lit< tt);
   eight-permissions = refl;
-  permissions = λ i. rw (all-fresh freshPermission 8 i) (record { address = lit< tt; expiry = lit< tt });
+  permissions = λ i. rw (all-same freshPermission 8 i) (record { address = lit< tt; expiry = lit< tt });
   eight-channels = refl;
-  channels = λ i. rw (all-fresh freshChannel 8 i) (record { number = lit< tt; peer = (lit< tt, lit< tt); expiry = lit< tt });
+  channels = λ i. rw (all-same freshChannel 8 i) (record { number = lit< tt; peer = (lit< tt, lit< tt); expiry = lit< tt });
 }
 
 pub found-fits : (found : Found) (l : List Slot) → ((i : ℕ) → SlotFits (slotAt l i)) → SlotFits (atOr freshSlot found l)
@@ -221,7 +221,7 @@ next-fits st a f =
 
 -- ---- Every list of calls
 pub empty-fits : StateFits empty
-empty-fits = record { clock = lit< tt; sixty-four = refl; slots = λ i. rw (all-fresh freshSlot 64 i) fresh-fits }
+empty-fits = record { clock = lit< tt; sixty-four = refl; slots = λ i. rw (all-same freshSlot 64 i) fresh-fits }
 
 pub slots-fit : (list : List Event) (first last : State) → Lived first list last → StateFits first → StateFits last
 slots-fit [] first last l f = rw (← l) f

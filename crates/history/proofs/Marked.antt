@@ -5,7 +5,7 @@ use mathlib.Core.Path.{_≡_, refl}
 use mathlib.Core.List.{List, [], _∷_, _++_}
 use lib.ListN.{replicate}
 use Rattle.wire.specs.Wire.{num, bytesOf}
-use Rattle.choice.specs.Choice.{both}
+use Rattle.choice.specs.Choice.{both, any}
 use Rattle.address.specs.declared.Address.the-variants.{V4}
 use Rattle.address.specs.declared.FiveTuple.{FiveTuple}
 use Rattle.address.specs.declared.TransportAddress.{TransportAddress}
@@ -20,7 +20,7 @@ use Rattle.slot.specs.Search.{find, entry, putAt, atOr}
 use Rattle.slot.specs.Slot.{liveAllocation, livePermission, liveChannel, freshTransactionId, freshPermission, freshChannel, freshSlot, isChannelNumber, holds, holdsUser, holdsPort, permits, freePermission, permissionEntry, permit, numbered, leadsTo, numberTaken, peerTaken, freeChannel, channelEntry, bind}
 use Rattle.table.specs.Table.{count}
 use Rattle.rules.specs.Change.{Out, dropped, toClient, check, errorMessage, respond}
-use Rattle.rules.specs.Values.{anyUnknown, any, malformedPeer, ipv6Peer}
+use Rattle.rules.specs.Values.{anyUnknown, malformedPeer, ipv6Peer}
 use Rattle.rules.specs.Requests.{requestCode, ownCode}
 use Rattle.allocation_rules.specs.Allocations.{repeats, allocateCode, allocated, secondsLeft, allocate, refreshCode, renewed, refreshed, refresh, firstFree, portFor}
 use Rattle.permission_rules.specs.Permissions.{permitPeer, permitAll, createPermissionCode, createPermission, bound, channelBindCode, channelBind}

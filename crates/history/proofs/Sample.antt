@@ -5,7 +5,7 @@ use mathlib.Core.List.{List, [], _∷_}
 use lib.Dec.{lit<}
 use lib.ListN.{length, take, replicate}
 use Rattle.wire.specs.Wire.{num, bytesOf}
-use Rattle.choice.specs.Choice.{both}
+use Rattle.choice.specs.Choice.{both, any}
 use Rattle.address.specs.declared.Address.the-variants.{V4}
 use Rattle.address.specs.declared.FiveTuple.{FiveTuple}
 use Rattle.address.specs.declared.TransportAddress.{TransportAddress}
@@ -19,7 +19,7 @@ use Rattle.slot.specs.Slot.{liveAllocation, livePermission, freshSlot, isChanne
 use Rattle.table.specs.Table.{slotAt, count}
 use Rattle.rules.specs.declared.answer.Outcome.the-variants.{Dropped, ToClient}
 use Rattle.rules.specs.Change.{check, respond}
-use Rattle.rules.specs.Values.{anyUnknown, any, malformedPeer, ipv6Peer}
+use Rattle.rules.specs.Values.{anyUnknown, malformedPeer, ipv6Peer}
 use Rattle.rules.specs.Requests.{requestCode, ownCode}
 use Rattle.allocation_rules.specs.Allocations.{repeats, allocateCode, allocated, allocate, firstFree, portFor}
 use Rattle.permission_rules.specs.Permissions.{permitPeer, permitAll, createPermissionCode, createPermission}

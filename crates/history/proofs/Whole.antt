@@ -7,6 +7,7 @@ use mathlib.Core.List.{List, [], _∷_}
 use native.Mathlib.Omega.{arith}
 use native.Mathlib.Nat.{le-refl, not-suc-le-zero}
 use lib.ListN.{length}
+use Rattle.wire.proofs.Laws.{all-same}
 use Rattle.choice.specs.Choice.{pick}
 use Rattle.address.specs.declared.Address.{Address}
 use Rattle.address.specs.declared.Address.the-variants.{V4, V6}
@@ -46,13 +47,12 @@ use Rattle.history.proofs.Table as table
 use Rattle.history.proofs.Table.{Accounts, AccountsFor, own-port, accounts-later, Reach, reach→, reach←}
 use Rattle.history.proofs.Keep.{keep as keep-accounts}
 use Rattle.history.proofs.Tests.{find-some, port-is, none-port, has-permission→, has-permission←}
-use Rattle.history.proofs.Entries.{all-fresh}
 use Rattle.history.proofs.Made.{quiet, made-asked}
 
 -- ---- The empty relay
 none-live : (i : ℕ) → Live 0 (slotAt (empty .slots) i) → ⊥
 unfolding freshSlot
-none-live i x = not-suc-le-zero (rw (all-fresh freshSlot 64 i) at x)
+none-live i x = not-suc-le-zero (rw (all-same freshSlot 64 i) at x)
 
 pub accounts-empty : AccountsFor [] empty
 accounts-empty = record {

@@ -3,7 +3,7 @@ use Prim.Native.Nat.{ℕ, _-_, _<_}
 use mathlib.Core.Path.{_≡_, sym, ap, _∙_}
 use mathlib.Core.Bool.{Bool, true, false}
 use mathlib.Core.List.{List, _∷_}
-use Rattle.choice.specs.Choice.{pick}
+use Rattle.choice.specs.Choice.{pick, any}
 use Rattle.stun.specs.declared.values.AddressValue.{AddressValue}
 use Rattle.stun.specs.declared.values.NumberValue.{NumberValue}
 use Rattle.stun.specs.declared.values.NumberValue.the-variants.{Number, WrongLength, Absent}
@@ -14,7 +14,7 @@ use Rattle.stun.specs.Values.{peersFrom}
 use Rattle.stun.proofs.Laws.{no-peer-left, one-peer-left}
 use Rattle.slot.specs.declared.Slot.{Slot}
 use Rattle.slot.specs.declared.Placed.{Placed}
-use Rattle.rules.specs.Values.{any, numberGiven}
+use Rattle.rules.specs.Values.{numberGiven}
 use Rattle.permission_rules.specs.Permissions.{permitPeer, permitAll}
 
 -- ---- A number below a bound

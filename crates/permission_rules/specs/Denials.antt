@@ -6,7 +6,7 @@ use Rattle.address.specs.declared.Address.{Address}
 use Rattle.address.specs.declared.Address.the-variants.{V4, V6}
 use Rattle.stun.specs.declared.values.AddressValue.{AddressValue}
 use Rattle.stun.specs.Values.{peers, firstPeer}
-use Rattle.rules.specs.Values.{any}
+use Rattle.choice.specs.Choice.{any}
 use Rattle.denied.specs.Tree.{denied}
 
 -- the prefixes are of IPv4; an IPv6 address gets 443 before

@@ -2,7 +2,7 @@
 use Prim.Native.Nat.{ℕ}
 use mathlib.Core.Bool.{Bool, true, false, not}
 use mathlib.Core.List.{List, [], _∷_}
-use Rattle.choice.specs.Choice.{pick}
+use Rattle.choice.specs.Choice.{pick, any}
 use Rattle.address.specs.declared.TransportAddress.{TransportAddress}
 use Rattle.stun.specs.declared.kinds.Method.the-variants.{CreatePermission, ChannelBind}
 use Rattle.stun.specs.declared.values.AddressValue.{AddressValue}
@@ -13,7 +13,7 @@ use Rattle.slot.specs.declared.Placed.{Placed}
 use Rattle.slot.specs.Slot.{isChannelNumber, permit, numberTaken, peerTaken, bind}
 use Rattle.rules.specs.declared.requests.ClientCall.{ClientCall}
 use Rattle.rules.specs.Change.{Change, write, toClient, check, respond}
-use Rattle.rules.specs.Values.{channelNumber, missing, numberGiven, isIpv6, none, any, malformedPeer, ipv6Peer}
+use Rattle.rules.specs.Values.{channelNumber, missing, numberGiven, isIpv6, none, malformedPeer, ipv6Peer}
 use Rattle.rules.specs.Requests.{ownCode}
 
 -- ---- CreatePermission

@@ -21,7 +21,8 @@ ghost use Prim.Native.Nat.{_≤_, _^_};
 ghost use lib.ListN.{length};
 ghost use Rattle.stun.specs.Values.{peers};
 ghost use Rattle.rules.specs.Inner.{Answers, faulty};
-ghost use Rattle.rules.specs.Values.{none, any};
+ghost use Rattle.choice.specs.Choice.{any};
+ghost use Rattle.rules.specs.Values.{none};
 ghost use Rattle.permission_rules.specs.Permissions.{permitPeer, permitAll, createPermissionCode, createPermission};
 
 fn no_peer(s: &[u8]) -> bool

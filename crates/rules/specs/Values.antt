@@ -4,7 +4,6 @@ use mathlib.Core.Bool.{Bool, true, false, not}
 use mathlib.Core.List.{List, [], _∷_}
 use lib.Dec.{eqb}
 use lib.ListN.{length}
-use Rattle.choice.specs.Choice.{pick}
 use Rattle.address.specs.declared.Address.{Address}
 use Rattle.address.specs.declared.Address.the-variants.{V4, V6}
 use Rattle.stun.specs.AttributeNumbers as attribute
@@ -70,10 +69,6 @@ ipv4Of (V6 a b c d) = 0
 abbrev pub none : List AddressValue → Bool
 none [] = true
 none (v ∷ rest) = false
-
-unfoldable pub any : (AddressValue → Bool) → List AddressValue → Bool
-any test [] = false
-any test (v ∷ rest) = pick (test v) true (any test rest)
 
 unfoldable pub malformedPeer : AddressValue → Bool
 malformedPeer v = not (v .«well_formed»)

@@ -2,7 +2,7 @@
 use Prim.Native.Nat.{ℕ, zero, suc, _+_, _-_, _*_, _/_, _%_, _^_, _≤_, _<_}
 use mathlib.Core.Path.{_≡_, refl, sym, ap, ap₂, _∙_}
 use mathlib.Core.List.{List, [], _∷_, _++_, append-assoc, append-nil}
-use lib.ListN.{length, take, drop, replicate, length-append, length-drop, length-replicate, drop-of-length-le}
+use lib.ListN.{length, getD, take, drop, replicate, length-append, length-drop, length-replicate, drop-of-length-le}
 use lib.Seq.{getD-append-add, take-at, drop-at, drop-drop, take-all, take-length, sets, sets-eq}
 use native.Mathlib.Omega.{arith}
 use native.Mathlib.Nat.{suc-add, suc-mul, pow-suc, add-zero, zero-add, zero-mul, add-assoc, mul-assoc, mul-comm, add-mul, div-div-eq-div-mul, mod-mod, mod-eq-of-lt, mod-lt, mod-one, div-one, pow-succ', div-add-mod'}
@@ -16,6 +16,12 @@ use Rattle.wire.specs.Inner.{Wrote}
 pub pow-pos : (w : ℕ) → 0 < 256 ^ w
 pow-pos zero = lit< tt
 pow-pos (suc w) = rw pow-succ' (let h = pow-pos w in omega arith)
+
+-- a list of one value has it at every place, and past its end
+pub all-same : {A : Type 0} (x : A) (n i : ℕ) → getD (replicate n x) i x ≡ x
+all-same x zero i = refl
+all-same x (suc n) zero = refl
+all-same x (suc n) (suc i) = all-same x n i
 
 -- ---- reading
 

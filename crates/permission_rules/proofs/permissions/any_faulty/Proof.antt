@@ -4,7 +4,7 @@ use lib.ListN.{length}
 use native.Mathlib.Omega.{arith}
 use Rattle.stun.specs.Values.{peers}
 use Rattle.stun.proofs.Laws.{peer-onward}
-use Rattle.rules.specs.Values.{any}
+use Rattle.choice.specs.Choice.{any}
 use Rattle.rules.specs.Inner.{faulty}
 use Rattle.permission_rules.proofs.Laws.{Asking, ask-end, ask-yes, ask-no}
 use borrow.Author.Needs.{needs}
