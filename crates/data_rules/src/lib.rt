@@ -1,4 +1,4 @@
-// Send, ChannelData and a peer's datagram: data passes or is dropped, and no slot is changed.
+// Send, ChannelData and a peer's datagram: data passes, or is dropped with its cause, and no slot is changed.
 use address::TransactionId;
 use address::TransportAddress;
 use messages::put_channel_data;
@@ -15,7 +15,8 @@ use slot::channels::channel_at;
 use slot::channels::channel_by_number;
 use slot::channels::channel_by_peer;
 use slot::has;
-use slot::permissions::find_permission;
+use slot::permissions::PermissionState;
+use slot::permissions::permission_state;
 use stun::channel_data::ChannelMessage;
 use stun::channel_data::read_channel_data;
 use stun::kinds::AttributeKind;
@@ -27,15 +28,15 @@ ghost use lib.ListN.{length};
 ghost use Rattle.messages.specs.Inner.{Sent};
 ghost use Rattle.rules.specs.Change.{outcomeOf};
 ghost use Rattle.rules.specs.Inner.{Gives};
-ghost use Rattle.data_rules.specs.Data.{permitted, send, sendChannelData, relayed, relayFromPeer};
+ghost use Rattle.data_rules.specs.Data.{permissionOf, send, sendChannelData, relayed, relayFromPeer};
 
-// Whether there is a live permission for the peer's IP address.
-fn permitted(time: u64, peer: TransportAddress, slot: Slot) -> bool
-    ensures { λ r. ⌜ r ≡ permitted time peer slot ⌝ }
+// What the permissions say of the peer's IP address.
+fn permission_of(time: u64, peer: TransportAddress, slot: Slot) -> PermissionState
+    ensures { λ r. ⌜ r ≡ permissionOf time peer slot ⌝ }
 {
     let address = peer.address;
     let permissions = slot.permissions;
-    has(find_permission(time, address, permissions))
+    permission_state(time, address, permissions)
 }
 
 // A Send indication.
@@ -44,31 +45,34 @@ pub fn send(s: &[u8], call: ClientCall, own: bool, slot: Slot) -> Outcome
     ensures { λ r. ⌜ r ≡ outcomeOf (send call (now (s .entry)) own slot) ⌝ }
 {
     if any_unknown(s) {
-        return Outcome::Dropped;
+        return Outcome::DroppedOther;
     }
     if !own {
-        return Outcome::Dropped;
+        return Outcome::DroppedOther;
     }
     let value = first_peer(s);
     if malformed_peer(value) {
-        return Outcome::Dropped;
+        return Outcome::DroppedOther;
     }
     if ipv6_peer(value) {
-        return Outcome::Dropped;
+        return Outcome::DroppedOther;
     }
     let peer = value.peer;
-    if !permitted(call.time, peer, slot) {
-        return Outcome::Dropped;
-    }
     let allocation = slot.allocation;
     match first_attribute(s, AttributeKind::DATA) {
-        stun::message::ValuePlace::Value { start, len } => Outcome::ToPeer {
-            port: allocation.port,
-            peer,
-            start,
-            len,
-        },
-        stun::message::ValuePlace::Absent => Outcome::Dropped,
+        stun::message::ValuePlace::Value { start, len } => {
+            match permission_of(call.time, peer, slot) {
+                PermissionState::Live => Outcome::ToPeer {
+                    port: allocation.port,
+                    peer,
+                    start,
+                    len,
+                },
+                PermissionState::Lapsed => Outcome::DroppedLapsed,
+                PermissionState::Never => Outcome::DroppedNever,
+            }
+        }
+        stun::message::ValuePlace::Absent => Outcome::DroppedOther,
     }
 }
 
@@ -79,12 +83,12 @@ pub fn send_channel_data(s: &[u8], call: ClientCall, own: bool, slot: Slot) -> O
     match read_channel_data(s) {
         ChannelMessage::Data { number, start, len } => {
             if !own {
-                return Outcome::Dropped;
+                return Outcome::DroppedOther;
             }
             let channels = slot.channels;
             let found = channel_by_number(call.time, number, channels);
             if !has(found) {
-                return Outcome::Dropped;
+                return Outcome::DroppedOther;
             }
             let channel = channel_at(found, channels);
             let peer = channel.peer;
@@ -96,7 +100,7 @@ pub fn send_channel_data(s: &[u8], call: ClientCall, own: bool, slot: Slot) -> O
                 len,
             }
         }
-        ChannelMessage::Malformed => Outcome::Dropped,
+        ChannelMessage::Malformed => Outcome::DroppedOther,
     }
 }
 
@@ -136,17 +140,20 @@ pub fn relay_from_peer(
     ensures { λ r. ⌜ Gives (relayFromPeer time source id (now (s .entry)) own slot) (now (reply .entry)) (now (reply .exit)) r ⌝ }
 {
     if !own {
-        return Outcome::Dropped;
+        return Outcome::DroppedOther;
     }
     let address = source.address;
     if is_ipv6(address) {
-        return Outcome::Dropped;
+        return Outcome::DroppedOther;
     }
-    if !permitted(time, source, slot) {
-        return Outcome::Dropped;
+    match permission_of(time, source, slot) {
+        PermissionState::Live => {
+            let len = relay_data(s, reply, time, source, id, slot);
+            let allocation = slot.allocation;
+            let five_tuple = allocation.five_tuple;
+            Outcome::ToClient { five_tuple, len }
+        }
+        PermissionState::Lapsed => Outcome::DroppedLapsed,
+        PermissionState::Never => Outcome::DroppedNever,
     }
-    let len = relay_data(s, reply, time, source, id, slot);
-    let allocation = slot.allocation;
-    let five_tuple = allocation.five_tuple;
-    Outcome::ToClient { five_tuple, len }
 }

@@ -20,7 +20,7 @@ use Rattle.slot.specs.Slot.{isChannelNumber, numberTaken, peerTaken, permit, bi
 use Rattle.rules.specs.declared.requests.ClientCall.{ClientCall}
 use Rattle.allocation_rules.specs.declared.Room.{Room}
 use Rattle.rules.specs.Change.{Out, toClient, Change, keep, write, check, respond, errorMessage}
-use Rattle.rules.specs.Values.{lifetime, channelNumber, numberGiven, isIpv6, ipv6Peer}
+use Rattle.rules.specs.Values.{lifetime, channelNumber, numberGiven, isIpv6, none, ipv6Peer}
 use Rattle.rules.specs.Requests.{requestCode, ownCode}
 use Rattle.rules.proofs.Laws.{kept-not-written}
 use Rattle.allocation_rules.specs.Allocations.{repeats, allocateCode, allocated, allocateReply, allocate, refreshCode, refreshed, refresh, granted, grantedRefresh}
@@ -108,6 +108,7 @@ module _ (call : ClientCall) (s : List ℕ) (slot : Slot) (out : Out) where
     -- ---- CreatePermission: each address has its permission
     pub record Permits (denied : Bool) : Type 0 where
       pub owner : Owns call own was
+      pub some-peer : none (peers s) ≡ false
       pub all-ipv4 : any ipv6Peer (peers s) ≡ false
       pub none-denied : denied ≡ false
       pub room : permitAll (call .time) (peers s) was was .ok ≡ true
@@ -119,12 +120,12 @@ module _ (call : ClientCall) (s : List ℕ) (slot : Slot) (out : Out) where
     permits {denied} e =
         let q = answered _ _ s _ _ e in
         let owner = owns call s own was _ (q .0) in
-        let some-peer = passed _ 400 _ (some (omega arith)) (owner .1) in
+        let some-peer = passed (none (peers s)) 400 _ (some (omega arith)) (owner .1) in
         let well-formed = passed _ 400 _ (some (omega arith)) (some-peer .1) in
         let ipv4 = passed (any ipv6Peer (peers s)) 443 _ (some (omega arith)) (well-formed .1) in
         let reachable = passed denied 403 _ (some (omega arith)) (ipv4 .1) in
         let room = passed (not (permitAll (call .time) (peers s) was was .ok)) 508 0 (some (omega arith)) (reachable .1) in
-        record { owner = owner .0; all-ipv4 = ipv4 .0; none-denied = reachable .0; room = not-false _ (room .0); slot-is = cc; out-is = cc }
+        record { owner = owner .0; some-peer = some-peer .0; all-ipv4 = ipv4 .0; none-denied = reachable .0; room = not-false _ (room .0); slot-is = cc; out-is = cc }
 
     -- ---- ChannelBind: the permission and the channel are there
     pub record Binds (denied : Bool) (number : ℕ) (peer : TransportAddress) : Type 0 where

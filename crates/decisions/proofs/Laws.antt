@@ -11,8 +11,11 @@ use Rattle.wire.specs.Wire.{num}
 use Rattle.stun.specs.declared.kinds.Class.{Class}
 use Rattle.stun.specs.declared.kinds.Class.the-variants as Class
 use Rattle.stun.specs.Kinds.{messageKindOf}
-use Rattle.stun.specs.Message.{sorted, wellFormed, channelDataOf}
-use Rattle.choice.specs.Choice.{pick}
+use Rattle.stun.specs.AttributeNumbers as attribute
+use Rattle.stun.specs.Message.{sorted, wellFormed, attributes, firstOf, channelDataOf}
+use Rattle.stun.specs.Values.{firstPeer}
+use Rattle.choice.specs.Choice.{pick, any}
+use Rattle.choice.proofs.Laws.{chosen}
 use Rattle.slot.specs.declared.Slot.{Slot}
 use Rattle.slot.specs.declared.Found.{Found}
 use Rattle.slot.specs.declared.Found.the-variants.{Nothing}
@@ -26,18 +29,18 @@ use Rattle.table.specs.declared.keys.Wanted.{Wanted}
 use Rattle.table.specs.declared.surveys.Survey.{Survey}
 use Rattle.rules.specs.declared.answer.Answer.{Answer}
 use Rattle.rules.specs.declared.answer.Outcome.{Outcome}
-use Rattle.rules.specs.declared.answer.Outcome.the-variants.{Dropped}
+use Rattle.rules.specs.declared.answer.Outcome.the-variants.{DroppedOther}
 use Rattle.decisions.specs.declared.client.Asked.{Asked}
 use Rattle.decisions.specs.declared.client.Asked.the-variants as Asked
 use Rattle.allocation_rules.specs.declared.Room.{Room}
-use Rattle.rules.specs.Change.{Out, Change, dropped, keep, write, outcomeOf, replyAfter}
+use Rattle.rules.specs.Change.{otherCause, Out, dropped, Change, keep, write, outcomeOf, replyAfter}
 use Rattle.rules.specs.Inner.{Gives, Answers}
 use Rattle.allocation_rules.specs.Allocations.{portFor}
 use Rattle.stun.specs.declared.channel_data.ChannelMessage.{ChannelMessage}
 use Rattle.stun.specs.declared.channel_data.ChannelMessage.the-variants.{Data, Malformed}
 use Rattle.rules.specs.declared.requests.ClientCall.{ClientCall}
 use Rattle.rules.specs.Values.{anyUnknown}
-use Rattle.data_rules.specs.Data.{send, channelledFrom, sendChannelData, relayFromPeer}
+use Rattle.data_rules.specs.Data.{permissionOf, unlessDropped, sendCause, sentFrom, send, channelledFrom, sendChannelData, peerCause, relayFromPeer}
 use Rattle.decisions.specs.Client.{kindAsks, classAsks, askedBy}
 use Rattle.decisions.proofs.Accepted.{allocates as allocate-accepted, refreshes, permits, binds}
 use Rattle.decisions.proofs.WellFormed.{well-formed-long}
@@ -161,28 +164,26 @@ peer-answers call {survey} {own} {reply} {reply′} {outcome} {there} h rule g s
 
 -- data for which no slot was found is dropped
 module _ (call : ClientCall) (s : List ℕ) (slot : Slot) where
-  send-unfound : send call s false slot ≡ dropped
-  unfolding send
-  send-unfound = go (anyUnknown s)
-    where
-      go : (unknown : Bool) → pick unknown dropped dropped ≡ dropped
-      go true = refl
-      go false = refl
+  send-unfound : send call s false slot ≡ dropped otherCause
+  unfolding send sendCause any unlessDropped
+  send-unfound =
+      chosen (λ b. unlessDropped b (permissionOf (call .time) (firstPeer s .peer) slot) (sentFrom s slot (firstOf attribute.«data» (attributes s))) ≡ dropped otherCause)
+      (anyUnknown s) (λ _. refl) (λ _. refl)
 
-  channelled-unfound : sendChannelData call s false slot ≡ dropped
+  channelled-unfound : sendChannelData call s false slot ≡ dropped otherCause
   unfolding sendChannelData
   channelled-unfound = go (channelDataOf s)
     where
-      go : (message : ChannelMessage) → channelledFrom call slot false message ≡ dropped
+      go : (message : ChannelMessage) → channelledFrom call slot false message ≡ dropped otherCause
       go (Data number start len) = refl
       go Malformed = refl
 
-dropped-answers : {out : Out} (own : Slot) (reply : List ℕ) → out ≡ dropped → Answers (keep out) own reply reply (unwritten Dropped own)
+dropped-answers : {out : Out} (own : Slot) (reply : List ℕ) → out ≡ dropped otherCause → Answers (keep out) own reply reply (unwritten DroppedOther own)
 dropped-answers own reply e = rw e (gives-kept own (quiet-gives reply refl refl))
 
 module _ {survey : Survey} (own : Slot) (reply : List ℕ) (none : has (survey .own) ≡ false) (s : List ℕ) where
   pub client-dropped : (denied : Bool) (call : FromClient) (asked : Asked) → isData asked ≡ true → (slots : List Slot) → Looked slots (wantedBy (Client call) asked) survey
-      → own ≡ atOr freshSlot (survey .own) slots → Answers (onAsked denied call s slots asked .change) own reply reply (unwritten Dropped own)
+      → own ≡ atOr freshSlot (survey .own) slots → Answers (onAsked denied call s slots asked .change) own reply reply (unwritten DroppedOther own)
   client-dropped denied call Asked.Allocate y = absurd (false≢true y)
   client-dropped denied call Asked.Refresh y = absurd (false≢true y)
   client-dropped denied call Asked.CreatePermission y = absurd (false≢true y)
@@ -194,8 +195,8 @@ module _ {survey : Survey} (own : Slot) (reply : List ℕ) (none : has (survey .
   client-dropped denied call Asked.Nothing y = λ slots l e. dropped-answers own reply refl
 
   pub peer-dropped : (denied : Bool) (call : FromPeer) (slots : List Slot) → Looked slots (wantedBy (Peer call) Asked.Nothing) survey
-      → own ≡ atOr freshSlot (survey .own) slots → Answers (decided denied (Peer call) s slots .change) own reply reply (unwritten Dropped own)
-  unfolding decided relayFromPeer
+      → own ≡ atOr freshSlot (survey .own) slots → Answers (decided denied (Peer call) s slots .change) own reply reply (unwritten DroppedOther own)
+  unfolding decided relayFromPeer peerCause any unlessDropped
   peer-dropped denied call = peer-answers call (sym none) (relayFromPeer (call .time) (call .source) (call .id) s) (quiet-gives reply refl refl)
 
 -- a request is no data

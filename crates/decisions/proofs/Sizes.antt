@@ -1,7 +1,7 @@
 -- 'Nothing sent exceeds 1,536 bytes', of each rule, and a payload lies in the datagram. `relay` has both of the whole step.
 use Prim.Native.Nat.{ℕ, _+_, _≤_}
 use mathlib.Core.Path.{_≡_, refl}
-use mathlib.Core.Bool.{Bool, true, false, not, _&&_}
+use mathlib.Core.Bool.{Bool, true, false, _&&_}
 use mathlib.Core.List.{List}
 use native.Mathlib.Omega.{arith}
 use lib.Dec.{eqb, leb}
@@ -9,34 +9,34 @@ use lib.ListN.{length, length-take}
 use borrow.Author.Tests.{leb-true}
 use Rattle.wire.specs.Wire.{num}
 use Rattle.choice.specs.Choice.{pick}
+use Rattle.choice.proofs.Laws.{chosen}
 use Rattle.address.specs.declared.FiveTuple.{FiveTuple}
 use Rattle.address.specs.declared.TransportAddress.{TransportAddress}
 use Rattle.address.specs.declared.TransactionId.{TransactionId}
 use Rattle.stun.specs.declared.kinds.Method.{Method}
 use Rattle.stun.specs.declared.kinds.Method.the-variants.{CreatePermission, ChannelBind}
-use Rattle.stun.specs.declared.message.ValuePlace.{ValuePlace}
-use Rattle.stun.specs.declared.message.ValuePlace.the-variants.{Value, Absent}
 use Rattle.stun.specs.declared.channel_data.ChannelMessage.the-variants.{Data, Malformed}
 use Rattle.stun.specs.AttributeNumbers as attribute
-use Rattle.stun.specs.Message.{attributes, firstOf, unknownTypes, channelDataOf}
-use Rattle.stun.specs.Values.{transactionId, firstPeer}
+use Rattle.stun.specs.Message.{unknownTypes, channelDataOf}
+use Rattle.stun.specs.Values.{transactionId}
 use Rattle.stun.proofs.Laws.{first-in}
-use Rattle.messages.specs.Messages.{errorResponse, unknownResponse, channelData, dataIndication}
+use Rattle.messages.specs.Messages.{errorResponse, unknownResponse}
 use Rattle.messages.proofs.Laws.{allocate-small, refresh-small, bare-small, error-small, unknown-small, indication-small, channel-data-small}
 use Rattle.slot.specs.declared.Slot.{Slot}
-use Rattle.slot.specs.Search.{find, has, atOr}
-use Rattle.slot.specs.Slot.{freshChannel, numbered, leadsTo}
+use Rattle.slot.specs.Search.{find, has}
+use Rattle.slot.specs.Slot.{leadsTo}
 use Rattle.rules.specs.declared.requests.ClientCall.{ClientCall}
 use Rattle.allocation_rules.specs.declared.Room.{Room}
 use Rattle.rules.specs.Change.{Out, dropped, toClient, toPeer, Change, keep, outOf, errorMessage, respond}
-use Rattle.rules.specs.Values.{lifetime, anyUnknown, isIpv6, ipv4Of, malformedPeer, ipv6Peer}
+use Rattle.rules.specs.Values.{lifetime, ipv4Of}
 use Rattle.allocation_rules.specs.Allocations.{repeats, granted, toldAgain, newlyMade, allocate, refresh}
 use Rattle.permission_rules.specs.Permissions.{createPermission, channelBind}
-use Rattle.data_rules.specs.Data.{permitted, sentFrom, send, channelledFrom, sendChannelData, relayed, relayFromPeer}
+use Rattle.data_rules.specs.Data.{send, sendChannelData, relayed, relayFromPeer}
+use Rattle.data_rules.proofs.Laws.{send-is, channelled-is, from-peer-is}
 
 -- what goes out: a message of 1,536 bytes at most, or a payload in the datagram
 abbrev pub Fits : List ℕ → Out → Type 0
-Fits s dropped = Unit
+Fits s (dropped cause) = Unit
 Fits s (toClient fiveTuple message) = length message ≤ 1536
 Fits s (toPeer port peer start len) = start + len ≤ length s
 
@@ -80,52 +80,31 @@ module _ (call : ClientCall) (s : List ℕ) where
 
   -- the value of DATA lies in the message
   pub send-fits : (own : Bool) (slot : Slot) → Fits s (send call s own slot)
-  unfolding send
-  send-fits own slot =
-      go (anyUnknown s) (not own) (malformedPeer (firstPeer s)) (ipv6Peer (firstPeer s)) (not (permitted (call .time) (firstPeer s .peer) slot))
-      (firstOf attribute.«data» (attributes s)) refl
-    where
-      go : (a b c d e : Bool) (place : ValuePlace) → firstOf attribute.«data» (attributes s) ≡ place
-          → Fits s (pick a dropped (pick b dropped (pick c dropped (pick d dropped (pick e dropped (sentFrom call s slot place))))))
-      go true b c d e place q = tt
-      go false true c d e place q = tt
-      go false false true d e place q = tt
-      go false false false true e place q = tt
-      go false false false false true place q = tt
-      go false false false false false (Value start len) q = first-in attribute.«data» s q
-      go false false false false false Absent q = tt
+  send-fits own slot = send-is (Fits s) (λ cause. tt) call s own slot (λ start len e live. first-in attribute.«data» s e)
 
   -- 'length over what follows ..: dropped'
   pub channelled-fits : (own : Bool) (slot : Slot) → Fits s (sendChannelData call s own slot)
-  unfolding sendChannelData channelDataOf
-  channelled-fits own slot = go (leb 4 (length s)) (leb (4 + num s 2 2) (length s)) refl
+  unfolding channelDataOf
+  channelled-fits own slot = channelled-is (Fits s) (λ cause. tt) call s own slot (λ number start len e there. data-in number start len e)
     where
-      passes : (a b : Bool) (port : ℕ) (peer : TransportAddress) (start len : ℕ) → start + len ≤ length s
-          → Fits s (pick a dropped (pick b dropped (toPeer port peer start len)))
-      passes true b port peer start len h = tt
-      passes false true port peer start len h = tt
-      passes false false port peer start len h = h
-
-      go : (a b : Bool) → leb (4 + num s 2 2) (length s) ≡ b
-          → Fits s (channelledFrom call slot own (pick (a && b) (Data (num s 0 2) 4 (num s 2 2)) Malformed))
-      go true true e =
-          passes (not own) (not (has (find (numbered (call .time) (num s 0 2)) (slot .channels)))) _ _ 4 (num s 2 2)
-          (leb-true (4 + num s 2 2) (length s) e)
-      go true false e = tt
-      go false b e = tt
+      data-in : (number start len : ℕ) → channelDataOf s ≡ Data number start len → start + len ≤ length s
+      data-in number start len e = go (leb 4 (length s)) (leb (4 + num s 2 2) (length s)) refl e
+        where
+          go : (a b : Bool) → leb (4 + num s 2 2) (length s) ≡ b → pick (a && b) (Data (num s 0 2) 4 (num s 2 2)) Malformed ≡ Data number start len → start + len ≤ length s
+          go true true q e =
+              let from : 4 ≡ start = cc in
+              let size : num s 2 2 ≡ len = cc in
+              rw (← from, ← size) (leb-true (4 + num s 2 2) (length s) q)
+          go true false q e = let z : _≡_ {A = ℕ} 0 1 = cc in absurd (omega arith)
+          go false b q e = let z : _≡_ {A = ℕ} 0 1 = cc in absurd (omega arith)
 
 -- a peer's datagram is not over 1,500 bytes
 pub from-peer-fits : (time : ℕ) (source : TransportAddress) (id : TransactionId) (s : List ℕ) (own : Bool) (slot : Slot) → length s ≤ 1500
     → Fits s (relayFromPeer time source id s own slot)
-unfolding relayFromPeer relayed
-from-peer-fits time source id s own slot h =
-    let found = find (leadsTo time source) (slot .channels) in
-    go (not own) (isIpv6 (source .address)) (not (permitted time source slot)) (has found) (atOr freshChannel found (slot .channels) .number)
+unfolding relayed
+from-peer-fits time source id s own slot h = from-peer-is (Fits s) (λ cause. tt) time source id s own slot (λ live. message)
   where
-    go : (a b c d : Bool) (number : ℕ)
-        → Fits s (pick a dropped (pick b dropped (pick c dropped (toClient (slot .allocation .«five_tuple») (pick d (channelData number s) (dataIndication id (ipv4Of (source .address)) (source .port) s))))))
-    go true b c d number = tt
-    go false true c d number = tt
-    go false false true d number = tt
-    go false false false true number = channel-data-small number s h
-    go false false false false number = indication-small id (ipv4Of (source .address)) (source .port) s h
+    message : length (relayed time source id s slot) ≤ 1536
+    message =
+        chosen (λ (m : List ℕ). length m ≤ 1536) (has (find (leadsTo time source) (slot .channels))) (λ _. channel-data-small _ s h)
+        (λ _. indication-small id (ipv4Of (source .address)) (source .port) s h)

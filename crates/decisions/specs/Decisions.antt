@@ -12,7 +12,7 @@ use Rattle.decisions.specs.declared.client.Asked.{Asked}
 use Rattle.decisions.specs.declared.client.Asked.the-variants as Asked
 use Rattle.rules.specs.declared.requests.ClientCall.{ClientCall}
 use Rattle.allocation_rules.specs.declared.Room.{Room}
-use Rattle.rules.specs.Change.{Change, keep, dropped}
+use Rattle.rules.specs.Change.{otherCause, dropped, Change, keep}
 use Rattle.allocation_rules.specs.Allocations.{allocate, refresh, portFor}
 use Rattle.permission_rules.specs.Permissions.{createPermission, channelBind}
 use Rattle.permission_rules.specs.Denials.{anyDenied, firstDenied}
@@ -89,7 +89,7 @@ onAsked denied call s slots Asked.CreatePermission = aboutOwn call slots (create
 onAsked denied call s slots Asked.ChannelBind = aboutOwn call slots (channelBind (asRules call) s denied)
 onAsked denied call s slots Asked.Send = aboutOwn call slots (λ own slot. keep (send (asRules call) s own slot))
 onAsked denied call s slots Asked.ChannelData = aboutOwn call slots (λ own slot. keep (sendChannelData (asRules call) s own slot))
-onAsked denied call s slots Asked.Nothing = record { place = Nothing; change = keep dropped }
+onAsked denied call s slots Asked.Nothing = record { place = Nothing; change = keep (dropped otherCause) }
 
 -- a client's datagram by what it asks, and by whether it names a denied peer; a peer's is about the live slot with the relay port
 unfoldable pub decided : (denied : Bool) → Call → List ℕ → List Slot → Decision

@@ -33,7 +33,7 @@ ghost use Rattle.table.specs.Inner.{placeOf};
 ghost use Rattle.slot.specs.Search.{has};
 ghost use Rattle.slot.specs.Slot.{freshSlot};
 ghost use Rattle.interface.specs.declared.incoming.Call.the-variants.{Client, Peer};
-ghost use Rattle.rules.specs.declared.answer.Outcome.the-variants.{Dropped};
+ghost use Rattle.rules.specs.declared.answer.Outcome.the-variants.{DroppedOther};
 ghost use Rattle.decisions.specs.declared.client.Asked.the-variants as AskedIs;
 ghost use Rattle.decisions.specs.Client.{askedBy};
 ghost use Rattle.decisions.specs.Decisions.{asRules, asksDenied, onAsked, decided};
@@ -215,10 +215,10 @@ fn answer_allocate(
 
 // Nothing passes, and no slot is written.
 fn answer_dropped(own: Slot) -> Answer
-    ensures { λ r. ⌜ r ≡ unwritten Dropped own ⌝ }
+    ensures { λ r. ⌜ r ≡ unwritten DroppedOther own ⌝ }
 {
     Answer {
-        outcome: Outcome::Dropped,
+        outcome: Outcome::DroppedOther,
         writes: false,
         slot: own,
     }
@@ -237,13 +237,13 @@ fn pass_client(
 {
     let found = survey.own;
     match asked {
-        Asked::Allocate => Outcome::Dropped,
-        Asked::Refresh => Outcome::Dropped,
-        Asked::CreatePermission => Outcome::Dropped,
-        Asked::ChannelBind => Outcome::Dropped,
+        Asked::Allocate => Outcome::DroppedOther,
+        Asked::Refresh => Outcome::DroppedOther,
+        Asked::CreatePermission => Outcome::DroppedOther,
+        Asked::ChannelBind => Outcome::DroppedOther,
         Asked::Send => send(datagram, client_call(call), has(found), own),
         Asked::ChannelData => send_channel_data(datagram, client_call(call), has(found), own),
-        Asked::Nothing => Outcome::Dropped,
+        Asked::Nothing => Outcome::DroppedOther,
     }
 }
 

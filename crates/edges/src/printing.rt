@@ -185,11 +185,13 @@ pub(crate) fn write_message(s: &[u8]) {
     }
 }
 
-// `R` a refusal, `D` a drop, `S` what goes to a client, `F` what goes to a peer.
+// `R` a refusal, `D` a drop with its cause, `S` what goes to a client, `F` what goes to a peer.
 pub(crate) fn write_outcome<'a>(outcome: Outcome, datagram: &'a [u8], reply: &'a [u8]) {
     match outcome {
         Outcome::Refused(number) => write_lettered(b'R', number as u64),
-        Outcome::Dropped => write_byte(b'D'),
+        Outcome::DroppedLapsed => write(b"D lapsed"),
+        Outcome::DroppedNever => write(b"D never"),
+        Outcome::DroppedOther => write(b"D other"),
         Outcome::ToClient { five_tuple, len } => {
             write_byte(b'S');
             write_peer(five_tuple.client);

@@ -31,7 +31,7 @@ fn nobody() -> TransportAddress {
 fn refused(line: &[u8]) {
     let number = number_u8(line, 2);
     if number == 0 {
-        write_sent(line, Outcome::Dropped);
+        write_sent(line, Outcome::DroppedOther);
         return;
     }
     write_sent(line, Outcome::Refused(number));

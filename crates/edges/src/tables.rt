@@ -26,7 +26,7 @@ use state::fresh_bookkeeping;
 pub(crate) fn empty() -> Held {
     let slots = [fresh_slot(); 64];
     let bookkeeping = fresh_bookkeeping();
-    let outcome = Outcome::Dropped;
+    let outcome = Outcome::DroppedOther;
     Held {
         slots,
         bookkeeping,

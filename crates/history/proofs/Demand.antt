@@ -49,12 +49,12 @@ lived-is (e ∷ rest) first last l =
 -- ---- The theorem
 module _ (first : State) (past : List Counted) (I : AccountsFor past first) (list : List Event) (last : State) (lived : Lived first list last) where
   -- the state that an event of the list met
-  record Met (before : List Event) (e : Event) : Type 0 where
-    st : State
-    accounts : AccountsFor (counted past before) st
-    outcome-is : e .outcome ≡ outcome st (e .arrival)
+  pub record Met (before : List Event) (e : Event) : Type 0 where
+    pub st : State
+    pub accounts : AccountsFor (counted past before) st
+    pub outcome-is : e .outcome ≡ outcome st (e .arrival)
 
-  met : (before : List Event) (e : Event) (after : List Event) → list ≡ before ++ e ∷ after → Met before e
+  pub met : (before : List Event) (e : Event) (after : List Event) → list ≡ before ++ e ∷ after → Met before e
   met before e after split =
       let m = lived-middle before (e ∷ after) first last (rw split at lived) in
       record { st = m .0; accounts = lived-accounts before first (m .0) past (m .1) I; outcome-is = m .2 .1 .outcome-is }
@@ -67,7 +67,7 @@ module _ (first : State) (past : List Counted) (I : AccountsFor past first) (lis
         rw (m .outcome-is) (delivery (m .st) (counted past before) (m .accounts) (e .arrival) R x t (c .from) (rw (m .outcome-is) at (c .not-refused)) C);
     to-nobody = λ before e R x t c none.
         let m = met before e (c .after) (c .split) in
-        m .outcome-is ∙ nobody (m .st) (counted past before) (m .accounts) (e .arrival) R x t (c .from) (rw (m .outcome-is) at (c .not-refused)) none;
+        rw (m .outcome-is) (nobody (m .st) (counted past before) (m .accounts) (e .arrival) R x t (c .from) (rw (m .outcome-is) at (c .not-refused)) none);
   }
 
 -- from an empty relay

@@ -1,14 +1,13 @@
 -- Request 2: where every call of a list meets the tree of one text, nothing passes between a client and an address that the text denies.
 use Prim.Native.Nat.{ℕ, _<_, _^_}
 use mathlib.Core.Path.{_≡_, refl, sym, _∙_}
-use mathlib.Core.Bool.{Bool, true, false, not, false≢true}
+use mathlib.Core.Bool.{Bool, true, false, false≢true}
 use mathlib.Core.List.{List, [], _∷_, _++_}
 use native.Mathlib.Omega.{arith}
 use lib.Dec.{eqb}
 use lib.ListN.{length}
-use borrow.Author.Tests.{not-false}
 use Rattle.wire.proofs.Laws.{all-same}
-use Rattle.choice.specs.Choice.{pick, any}
+use Rattle.choice.specs.Choice.{any}
 use Rattle.choice.proofs.Laws.{chosen}
 use Rattle.address.specs.declared.Address.{Address}
 use Rattle.address.specs.declared.Address.the-variants.{V4}
@@ -17,30 +16,25 @@ use Rattle.address.specs.declared.TransportAddress.{TransportAddress}
 use Rattle.address.specs.declared.TransactionId.{TransactionId}
 use Rattle.stun.specs.declared.kinds.Method.{Method}
 use Rattle.stun.specs.declared.values.AddressValue.{AddressValue}
-use Rattle.stun.specs.declared.message.ValuePlace.{ValuePlace}
-use Rattle.stun.specs.declared.message.ValuePlace.the-variants.{Value, Absent}
-use Rattle.stun.specs.declared.channel_data.ChannelMessage.{ChannelMessage}
-use Rattle.stun.specs.declared.channel_data.ChannelMessage.the-variants.{Data, Malformed}
-use Rattle.stun.specs.AttributeNumbers as attribute
-use Rattle.stun.specs.Message.{attributes, firstOf, channelDataOf}
 use Rattle.stun.specs.Values.{peers, firstPeer}
 use Rattle.slot.specs.declared.Slot.{Slot}
 use Rattle.slot.specs.declared.Permission.{Permission}
+use Rattle.slot.specs.declared.permissions.PermissionState.the-variants.{Live}
 use Rattle.slot.specs.declared.Channel.{Channel}
 use Rattle.slot.specs.declared.Found.{Found}
 use Rattle.slot.specs.declared.Found.the-variants.{At, Nothing}
-use Rattle.slot.specs.Search.{find, has, atOr}
+use Rattle.slot.specs.Search.{find, atOr}
 use Rattle.slot.specs.Slot.{freshPermission, freshChannel, freshSlot, permissionEntry, permit, channelEntry, bind, numbered}
 use Rattle.table.specs.Table.{slotAt}
 use Rattle.rules.specs.declared.answer.Outcome.the-variants.{ToClient, ToPeer}
 use Rattle.rules.specs.Change.{Out, dropped, toClient, toPeer, Change, keep, write, outOf, respond}
-use Rattle.rules.specs.Values.{anyUnknown, isIpv6, malformedPeer, ipv6Peer}
 use Rattle.rules.proofs.Laws.{kept-not-written}
 use Rattle.allocation_rules.specs.declared.Room.{Room}
 use Rattle.allocation_rules.specs.Allocations.{repeats, allocated, allocate, renewed, refresh}
 use Rattle.permission_rules.specs.Permissions.{createPermission, bound, channelBind}
 use Rattle.permission_rules.specs.Denials.{deniedAddress, deniedPeer}
-use Rattle.data_rules.specs.Data.{permitted, sentFrom, send, channelledFrom, sendChannelData, relayFromPeer}
+use Rattle.data_rules.specs.Data.{permissionOf, send, sendChannelData, relayFromPeer}
+use Rattle.data_rules.proofs.Laws.{send-is, channelled-is, from-peer-is}
 use Rattle.denied.specs.Prefixes.{covered}
 use Rattle.denied.specs.Tree.{denied}
 use Rattle.denied.specs.Denied.{prefixesOf, readDenied}
@@ -64,7 +58,8 @@ use Rattle.history.specs.Statement.{permissionAt, channelAt}
 use Rattle.history.specs.Denied.{AllMeet, KeptOut}
 use Rattle.history.proofs.Demand.{lived-middle}
 use Rattle.history.proofs.Slots.{place-keeps, found-keeps, MayPermit, permits-keep, refreshed-keeps, Writes, next-keeps}
-use Rattle.history.proofs.Tests.{find-some, has-permission→, numbered-is}
+use Rattle.history.proofs.Replies.{dropped-not-sent, dropped-not-relayed}
+use Rattle.history.proofs.Tests.{find-some, has-at, live-permission, numbered-is}
 
 -- no call changes the tree
 pub tree-stays : (st : State) (call : Call) (s : List ℕ) (reply : ℕ) → stateAfter st (act st call s reply) .bookkeeping .denied ≡ st .bookkeeping .denied
@@ -159,53 +154,34 @@ module _ (nodes : List ℕ) where
 
   -- nothing to a denied address, and nothing of one
   abbrev Kept : Call → Out → Type 0
-  Kept call dropped = Unit
+  Kept call (dropped cause) = Unit
   Kept (Client call) (toClient fiveTuple message) = Unit
   Kept (Peer call) (toClient fiveTuple message) = Reachable (call .source .address)
   Kept call (toPeer port peer start len) = Reachable (peer .address)
 
-  permitted-kept : (t : ℕ) (peer : TransportAddress) (slot : Slot) → Clean slot → not (permitted t peer slot) ≡ false → Reachable (peer .address)
-  unfolding permitted
-  permitted-kept t peer slot f n =
-      let p = has-permission→ t (peer .address) (slot .permissions) (not-false (permitted t peer slot) n) in
+  permitted-kept : (t : ℕ) (peer : TransportAddress) (slot : Slot) → Clean slot → permissionOf t peer slot ≡ Live → Reachable (peer .address)
+  unfolding permissionOf
+  permitted-kept t peer slot f live =
+      let p = live-permission t (peer .address) (slot .permissions) live in
       rw (p .same) at (f .permissions (p .at) (omega (arith, p .live)))
 
   peer-kept : (call : FromPeer) (s : List ℕ) (own : Bool) (slot : Slot) → Clean slot → Kept (Peer call) (relayFromPeer (call .time) (call .source) (call .id) s own slot)
-  unfolding relayFromPeer
-  peer-kept call s own slot f =
-      chosen (Kept (Peer call)) (not own) (λ _. tt) (λ _.
-      chosen (Kept (Peer call)) (isIpv6 (call .source .address)) (λ _. tt) (λ _.
-      chosen (Kept (Peer call)) (not (permitted (call .time) (call .source) slot)) (λ _. tt) (permitted-kept (call .time) (call .source) slot f)))
+  peer-kept call s own slot f = from-peer-is (Kept (Peer call)) (λ cause. tt) _ _ _ s own slot (permitted-kept (call .time) (call .source) slot f)
 
   module _ (call : FromClient) (s : List ℕ) where
-    sent-kept : (slot : Slot) (place : ValuePlace) → Reachable (firstPeer s .peer .address) → Kept (Client call) (sentFrom (asRules call) s slot place)
-    sent-kept slot (Value start len) r = r
-    sent-kept slot Absent r = tt
-
     send-kept : (own : Bool) (slot : Slot) → Clean slot → Kept (Client call) (send (asRules call) s own slot)
-    unfolding send
     send-kept own slot f =
-        chosen (Kept (Client call)) (anyUnknown s) (λ _. tt) (λ _.
-        chosen (Kept (Client call)) (not own) (λ _. tt) (λ _.
-        chosen (Kept (Client call)) (malformedPeer (firstPeer s)) (λ _. tt) (λ _.
-        chosen (Kept (Client call)) (ipv6Peer (firstPeer s)) (λ _. tt) (λ _.
-        chosen (Kept (Client call)) (not (permitted (call .time) (firstPeer s .peer) slot)) (λ _. tt) (λ n.
-        sent-kept slot (firstOf attribute.«data» (attributes s)) (permitted-kept (call .time) (firstPeer s .peer) slot f n))))))
+        send-is (Kept (Client call)) (λ cause. tt) _ s own slot (λ start len e live. permitted-kept (call .time) (firstPeer s .peer) slot f live)
 
     channelled-kept : (own : Bool) (slot : Slot) → Clean slot → Kept (Client call) (sendChannelData (asRules call) s own slot)
-    unfolding sendChannelData atOr
-    channelled-kept own slot f = go (channelDataOf s)
+    unfolding atOr
+    channelled-kept own slot f = channelled-is (Kept (Client call)) (λ cause. tt) _ s own slot (λ number start len e there. leads number (has-at _ there))
       where
-        leads : (number : ℕ) (found : Found) → find (numbered (call .time) number) (slot .channels) ≡ found → (start len : ℕ)
-            → Kept (Client call) (pick (not (has found)) dropped (toPeer (slot .allocation .port) (atOr freshChannel found (slot .channels) .peer) start len))
-        leads number (At i) e start len =
-            let live = numbered-is (call .time) number _ (find-some (numbered (call .time) number) (slot .channels) freshChannel i e .0) .0 in
-            f .channels i (omega (arith, live .0))
-        leads number Nothing e start len = tt
-
-        go : (message : ChannelMessage) → Kept (Client call) (channelledFrom (asRules call) slot own message)
-        go (Data number start len) = chosen (Kept (Client call)) (not own) (λ _. tt) (λ _. leads number (find (numbered (call .time) number) (slot .channels)) refl start len)
-        go Malformed = tt
+        leads : (number : ℕ) → (i : ℕ) × (find (numbered (call .time) number) (slot .channels) ≡ At i)
+            → Reachable (atOr freshChannel (find (numbered (call .time) number) (slot .channels)) (slot .channels) .peer .address)
+        leads number found =
+            let live = numbered-is (call .time) number _ (find-some (numbered (call .time) number) (slot .channels) freshChannel (found .0) (found .1) .0) .0 in
+            rw (found .1) (f .channels (found .0) (omega (arith, live .0)))
 
     -- a response goes to its client
     response-kept : (fiveTuple : FiveTuple) (method : Method) (code : ℕ) (accepted : Change) → Kept (Client call) (outOf accepted)
@@ -273,14 +249,14 @@ module _ (nodes : List ℕ) (x : ℕ) (shut : denied nodes x ≡ true) (st : Sta
       from-none : (call : Call) (act : Act) → KeptAct nodes call act → (C : FiveTuple) (n : ℕ) → outcomeOf act ≡ ToClient C n → (R t p : ℕ) (id : TransactionId)
           → call ≡ Peer (record { time = t; source = record { address = V4 x; port = p }; port = R; id = id }) → ⊥
       from-none call (refuse number) k C n q R t p id c = let z : _≡_ {A = ℕ} 0 1 = cc in omega arith
-      from-none call (accept next dropped) k C n q R t p id c = let z : _≡_ {A = ℕ} 0 1 = cc in omega arith
+      from-none call (accept next (dropped cause)) k C n q R t p id c = dropped-not-sent cause q
       from-none call (accept next (toClient D m)) k C n q R t p id c = false≢true (sym (rw c at k) ∙ shut)
       from-none call (accept next (toPeer port peer start len)) k C n q R t p id c = let z : _≡_ {A = ℕ} 0 1 = cc in omega arith
 
       to-none : (call : Call) (act : Act) → KeptAct nodes call act → (port : ℕ) (peer : TransportAddress) (start len : ℕ) → outcomeOf act ≡ ToPeer port peer start len
           → peer .address ≡ V4 x → ⊥
       to-none call (refuse number) k port peer start len q same = let z : _≡_ {A = ℕ} 0 1 = cc in omega arith
-      to-none call (accept next dropped) k port peer start len q same = let z : _≡_ {A = ℕ} 0 1 = cc in omega arith
+      to-none call (accept next (dropped cause)) k port peer start len q same = dropped-not-relayed cause q
       to-none call (accept next (toClient D m)) k port peer start len q same = let z : _≡_ {A = ℕ} 0 1 = cc in omega arith
       to-none call (accept next (toPeer port′ peer′ start′ len′)) k port peer start len q same =
           let p : peer′ ≡ peer = cc in false≢true (sym (rw (p, same) at k) ∙ shut)

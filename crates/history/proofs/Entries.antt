@@ -115,15 +115,15 @@ module _ (t : ℕ) (a : Address) (ps : List Permission) (j : ℕ) (sp : Spot t a
 -- ---- All addresses of a request
 pub record Granting (t : ℕ) (xs : List Address) (ps qs : List Permission) : Type 0 where
   pub neat : NeatPermissions t ps → NeatPermissions t qs
-  pub to : (b : Address) (u : ℕ) → t ≤ u → HasPermission u b qs → (List·Memᴰ b xs × (u < t + 300)) ⊎ HasPermission u b ps
+  pub to : (b : Address) (u : ℕ) → HasPermission u b qs → (List·Memᴰ b xs × (u < t + 300)) ⊎ HasPermission u b ps
   pub from : NeatPermissions t ps → (b : Address) (u : ℕ) → t ≤ u → (List·Memᴰ b xs × (u < t + 300)) ⊎ HasPermission u b ps → HasPermission u b qs
 
 granting-cons : (t : ℕ) (a : Address) (xs : List Address) (ps qs : List Permission) (j : ℕ) → Spot t a ps j
     → Granting t xs (set ps j (newPermission t a)) qs → Granting t (a ∷ xs) ps qs
 granting-cons t a xs ps qs j sp g = record { neat = λ n. g .neat (grant-neat t a ps j sp n); to = to; from = from }
   where
-    to : (b : Address) (u : ℕ) → t ≤ u → HasPermission u b qs → (List·Memᴰ b (a ∷ xs) × (u < t + 300)) ⊎ HasPermission u b ps
-    to b u le p = go (g .to b u le p)
+    to : (b : Address) (u : ℕ) → HasPermission u b qs → (List·Memᴰ b (a ∷ xs) × (u < t + 300)) ⊎ HasPermission u b ps
+    to b u p = go (g .to b u p)
       where
         fin : ((a ≡ b) × (u < t + 300)) ⊎ HasPermission u b ps → (List·Memᴰ b (a ∷ xs) × (u < t + 300)) ⊎ HasPermission u b ps
         fin (inl x) = inl (List·Memᴰ·head (sym (x .0)), x .1)
@@ -145,7 +145,7 @@ granting-cons t a xs ps qs j sp g = record { neat = λ n. g .neat (grant-neat t 
         go (inr x) = inr (grant← t a ps j sp n b u le (inr x))
 
 granting-nil : (t : ℕ) (ps : List Permission) → Granting t [] ps ps
-granting-nil t ps = record { neat = λ n. n; to = λ b u le p. inr p; from = λ n b u le o. go b u o }
+granting-nil t ps = record { neat = λ n. n; to = λ b u p. inr p; from = λ n b u le o. go b u o }
   where
     go : (b : Address) (u : ℕ) → (List·Memᴰ b [] × (u < t + 300)) ⊎ HasPermission u b ps → HasPermission u b ps
     go b u (inl x) = absurd (List·Memᴰ·not-nil (x .0))

@@ -2,18 +2,21 @@
 use mathlib.Core.Path.{_≡_, refl, sym, _∙_, ap, subst}
 use mathlib.Core.Logic.{_≢_, _⊎_, inl, inr}
 use mathlib.Core.List.{List, _∷_, List·Memᴰ}
-use Prim.Native.Nat.{ℕ, _+_, _<_, _≤_}
+use Prim.Native.Nat.{ℕ, _+_, _<_, _≤_, zero-le}
 use native.Mathlib.Omega.{arith}
+use native.Mathlib.Nat.{le-refl}
 use lib.Dec.{eqb}
 use mathlib.Core.Bool.{Bool, true, false}
 use borrow.Author.Tests.{eqb-true, eqb-false}
 use Rattle.address.specs.declared.Address.{Address}
 use Rattle.address.specs.declared.FiveTuple.{FiveTuple}
 use Rattle.slot.specs.declared.Slot.{Slot}
+use Rattle.slot.specs.declared.Permission.{Permission}
 use Rattle.history.specs.Counted.{Counted, gave, kept, allowed, nothing}
 use Rattle.history.specs.Statement.{Live}
-use Rattle.history.proofs.Readings.{Given, Granted, Allowed}
-use Rattle.history.proofs.Table.{View, HasPermission, Tidy, Frame, Quiet, Allot, Renew, End, Admit, Change, Accounts, accounts-later}
+use Rattle.history.proofs.Readings.{Given, Granted, Allowed, AnyAllowed, Forgotten}
+use Rattle.history.proofs.Table.{View, HasPermission, permission-before, Known, Tidy, Frame, Quiet, Allot, Renew, End, Admit, Change, Accounts, accounts-later}
+use Rattle.history.proofs.Tests.{permission?}
 
 pub nat? : (a b : ℕ) → (a ≡ b) ⊎ (a ≢ b)
 nat? a b = go (eqb a b) refl
@@ -38,6 +41,13 @@ by-slot now k v w f P a b i x = go (at? now k v w f i x)
     go (inl e) = subst P (sym e) a
     go (inr q) = b i (q .0) (q .1) (q .2)
 
+-- what is known of an address stays known, where the requests that were accepted stay
+known-more : (h g : List Counted) (C : FiveTuple) (a : Address) {ps : List Permission} → (AnyAllowed g C a → AnyAllowed h C a) → (Forgotten h C a → Forgotten g C a)
+    → Known h C a ps → Known g C a ps
+known-more h g C a had f (inl y) = inl y
+known-more h g C a had f (inr (inl none)) = inr (inl (λ y. none (had y)))
+known-more h g C a had f (inr (inr y)) = inr (inr (f y))
+
 -- slots that are not live may change in any way that leaves them not live: a sweep, say
 pub accounts-quiet : (now : ℕ) (v w : View) (h : List Counted) → Accounts now v h → Quiet now v w → Accounts now w h
 accounts-quiet now v w h I q = record {
@@ -47,13 +57,14 @@ accounts-quiet now v w h I q = record {
   given = λ i x. let p = q .after i x in rw p (I .given i (rw p at x));
   granted→ = λ i x t le y. let p = q .after i x in rw p (I .granted→ i (rw p at x) t le (rw p at y));
   granted← = λ C t le g. let s = I .granted← C t le g in let i : ℕ = s .0 in let lt : t < v i .allocation .expiry = s .2 in let p = q .before i (omega arith) in (i, rw p (s .1), rw p lt);
-  allowed→ = λ i x a t le y. let p = q .after i x in rw p (I .allowed→ i (rw p at x) a t le (rw p at y));
+  allowed→ = λ i x a t y. let p = q .after i x in rw p (I .allowed→ i (rw p at x) a t (rw p at y));
   allowed← = λ i x a t le y. let p = q .after i x in rw p (I .allowed← i (rw p at x) a t le (rw p at y));
+  known = λ i x. let p = q .after i x in rw p (I .known i (rw p at x));
 }
 
 -- a call that counts for nothing
 accounts-nothing : (now : ℕ) (v : View) (h : List Counted) → Accounts now v h → Accounts now v (nothing ∷ h)
-accounts-nothing now v h I = record { own = I .own; short = I .short; neat = I .neat; given = I .given; granted→ = I .granted→; granted← = I .granted←; allowed→ = I .allowed→; allowed← = I .allowed← }
+accounts-nothing now v h I = record { own = I .own; short = I .short; neat = I .neat; given = I .given; granted→ = I .granted→; granted← = I .granted←; allowed→ = I .allowed→; allowed← = I .allowed←; known = I .known }
 
 module _ (now : ℕ) (v w : View) (h : List Counted) (I : Accounts now v h) where
   module _ (C : FiveTuple) (R n : ℕ) (c : Allot now v w C R n) where
@@ -76,12 +87,15 @@ module _ (now : ℕ) (v w : View) (h : List Counted) (I : Accounts now v h) wher
           (λ t le y. inl (c .who, record { not-zero = c .some-time; not-over = rw (c .until) at y }))
           (λ i ne p x t le y. rw p (inr (c .new-who i x, I .granted→ i x t le (rw p at y))));
       granted← = back;
-      allowed→ = by-slot now (c .k) v w (c .frame) (λ i. (a : Address) (t : ℕ) → now ≤ t → HasPermission t a (w i .permissions) → Allowed (gave C R now n ∷ h) (w i .allocation .«five_tuple») a t)
-          (λ a t le y. absurd (c .bare a t y))
-          (λ i ne p x a t le y. rw p (c .new-who i x, I .allowed→ i x a t le (rw p at y)));
+      allowed→ = by-slot now (c .k) v w (c .frame) (λ i. (a : Address) (t : ℕ) → HasPermission t a (w i .permissions) → Allowed (gave C R now n ∷ h) (w i .allocation .«five_tuple») a t)
+          (λ a t y. absurd (c .bare a t y))
+          (λ i ne p x a t y. rw p (c .new-who i x, I .allowed→ i x a t (rw p at y)));
       allowed← = by-slot now (c .k) v w (c .frame) (λ i. (a : Address) (t : ℕ) → now ≤ t → Allowed (gave C R now n ∷ h) (w i .allocation .«five_tuple») a t → HasPermission t a (w i .permissions))
           (λ a t le y. absurd (y .0 (c .who)))
           (λ i ne p x a t le y. rw p (I .allowed← i x a t le (rw p at (y .1))));
+      known = by-slot now (c .k) v w (c .frame) (λ i. (a : Address) → Known (gave C R now n ∷ h) (w i .allocation .«five_tuple») a (w i .permissions))
+          (λ a. inr (inl (λ y. y .0 (c .who))))
+          (λ i ne p x a. rw p (known-more h (gave C R now n ∷ h) (v i .allocation .«five_tuple») a (λ y. y .1) (λ f. (c .new-who i x, f)) (I .known i x a)));
     }
       where
         back : (D : FiveTuple) (t : ℕ) → now ≤ t → Granted (gave C R now n ∷ h) D t → (i : ℕ) × (w i .allocation .«five_tuple» ≡ D) × (t < w i .allocation .expiry)
@@ -127,12 +141,15 @@ module _ (now : ℕ) (v w : View) (h : List Counted) (I : Accounts now v h) wher
         (λ t le y. inl (c .who ∙ c .mine, record { not-zero = c .some-time; not-over = rw (c .until) at y }))
         (λ i ne p x t le y. rw p (inr (other (c .k) (c .frame) (c .live) (c .who) i ne x C (c .mine), I .granted→ i x t le (rw p at y))));
     granted← = back;
-    allowed→ = by-slot now (c .k) v w (c .frame) (λ i. (a : Address) (t : ℕ) → now ≤ t → HasPermission t a (w i .permissions) → Allowed h (w i .allocation .«five_tuple») a t)
-        (λ a t le y. rw (c .who) (I .allowed→ (c .k) (c .live) a t le (rw (c .perms) at y)))
-        (λ i ne p x a t le y. rw p (I .allowed→ i x a t le (rw p at y)));
+    allowed→ = by-slot now (c .k) v w (c .frame) (λ i. (a : Address) (t : ℕ) → HasPermission t a (w i .permissions) → Allowed h (w i .allocation .«five_tuple») a t)
+        (λ a t y. rw (c .who) (I .allowed→ (c .k) (c .live) a t (rw (c .perms) at y)))
+        (λ i ne p x a t y. rw p (I .allowed→ i x a t (rw p at y)));
     allowed← = by-slot now (c .k) v w (c .frame) (λ i. (a : Address) (t : ℕ) → now ≤ t → Allowed h (w i .allocation .«five_tuple») a t → HasPermission t a (w i .permissions))
         (λ a t le y. rw (c .perms) (I .allowed← (c .k) (c .live) a t le (rw (c .who) at y)))
         (λ i ne p x a t le y. rw p (I .allowed← i x a t le (rw p at y)));
+    known = by-slot now (c .k) v w (c .frame) (λ i. (a : Address) → Known h (w i .allocation .«five_tuple») a (w i .permissions))
+        (rw (c .who, c .perms) (I .known (c .k) (c .live)))
+        (λ i ne p x. rw p (I .known i x));
   }
     where
       back : (D : FiveTuple) (t : ℕ) → now ≤ t → Granted (kept C now n ∷ h) D t → (i : ℕ) × (w i .allocation .«five_tuple» ≡ D) × (t < w i .allocation .expiry)
@@ -147,8 +164,9 @@ module _ (now : ℕ) (v w : View) (h : List Counted) (I : Accounts now v h) wher
     given = λ i x. let p = at i x in rw (p .1) (I .given i (p .2));
     granted→ = λ i x t le y. let p = at i x in rw (p .1) (inr (ne i (p .0) (p .2), I .granted→ i (p .2) t le (rw (p .1) at y)));
     granted← = back;
-    allowed→ = λ i x a t le y. let p = at i x in rw (p .1) (I .allowed→ i (p .2) a t le (rw (p .1) at y));
+    allowed→ = λ i x a t y. let p = at i x in rw (p .1) (I .allowed→ i (p .2) a t (rw (p .1) at y));
     allowed← = λ i x a t le y. let p = at i x in rw (p .1) (I .allowed← i (p .2) a t le (rw (p .1) at y));
+    known = λ i x. let p = at i x in rw (p .1) (I .known i (p .2));
   }
     where
       at : (i : ℕ) → Live now (w i) → (i ≢ c .k) × (w i ≡ v i) × Live now (v i)
@@ -175,17 +193,48 @@ module _ (now : ℕ) (v w : View) (h : List Counted) (I : Accounts now v h) wher
         (λ t le y. rw (c .who) (I .granted→ (c .k) (c .live) t le (rw (c .until) at y)))
         (λ i ne p x t le y. rw p (I .granted→ i x t le (rw p at y)));
     granted← = back;
-    allowed→ = by-slot now (c .k) v w (c .frame) (λ i. (a : Address) (t : ℕ) → now ≤ t → HasPermission t a (w i .permissions) → Allowed (allowed C xs (now + 300) ∷ h) (w i .allocation .«five_tuple») a t)
-        (λ a t le y. into a t le (c .perms→ a t le y))
-        (λ i ne p x a t le y. rw p (inr (I .allowed→ i x a t le (rw p at y))));
+    allowed→ = by-slot now (c .k) v w (c .frame) (λ i. (a : Address) (t : ℕ) → HasPermission t a (w i .permissions) → Allowed (allowed C xs (now + 300) ∷ h) (w i .allocation .«five_tuple») a t)
+        (λ a t y. into a t (c .perms→ a t y))
+        (λ i ne p x a t y. rw p (inr (I .allowed→ i x a t (rw p at y))));
     allowed← = by-slot now (c .k) v w (c .frame) (λ i. (a : Address) (t : ℕ) → now ≤ t → Allowed (allowed C xs (now + 300) ∷ h) (w i .allocation .«five_tuple») a t → HasPermission t a (w i .permissions))
         (λ a t le y. c .perms← (I .neat (c .k) (c .live)) a t le (out a t le (rw (c .who) at y)))
         (λ i ne p x a t le y. rw p (off i ne x a t le (rw p at y)));
+    known = by-slot now (c .k) v w (c .frame) (λ i. (a : Address) → Known (allowed C xs (now + 300) ∷ h) (w i .allocation .«five_tuple») a (w i .permissions))
+        (λ a. shown a (permission? 0 a (w (c .k) .permissions)))
+        (λ i ne p x a. rw p (let apart = other (c .k) (c .frame) (c .live) (c .who) i ne x C (c .mine) in
+        known-more h (allowed C xs (now + 300) ∷ h) (v i .allocation .«five_tuple») a (not-theirs _ a apart) (λ f. (λ e. absurd (apart e), inr f)) (I .known i x a)));
   }
     where
-      into : (a : Address) (t : ℕ) → now ≤ t → (List·Memᴰ a xs × (t < now + 300)) ⊎ HasPermission t a (v (c .k) .permissions) → Allowed (allowed C xs (now + 300) ∷ h) (w (c .k) .allocation .«five_tuple») a t
-      into a t le (inl y) = inl (c .who ∙ c .mine, y .0, y .1)
-      into a t le (inr y) = inr (rw (c .who) (I .allowed→ (c .k) (c .live) a t le y))
+      into : (a : Address) (t : ℕ) → (List·Memᴰ a xs × (t < now + 300)) ⊎ HasPermission t a (v (c .k) .permissions) → Allowed (allowed C xs (now + 300) ∷ h) (w (c .k) .allocation .«five_tuple») a t
+      into a t (inl y) = inl (c .who ∙ c .mine, y .0, y .1)
+      into a t (inr y) = inr (rw (c .who) (I .allowed→ (c .k) (c .live) a t y))
+
+      -- an entry for the address is still there; or it is not one of these, and each for it had ended
+      shown : (a : Address) → HasPermission 0 a (w (c .k) .permissions) ⊎ (HasPermission 0 a (w (c .k) .permissions) → ⊥)
+          → Known (allowed C xs (now + 300) ∷ h) (w (c .k) .allocation .«five_tuple») a (w (c .k) .permissions)
+      shown a (inl y) = inl y
+      shown a (inr gone) =
+          inr
+          (inr (
+            (λ e m. not-now (inl (m, omega arith))),
+            inl
+                (record {
+                  mine = c .who ∙ c .mine;
+                  other = c .some .0;
+                  named = c .some .1;
+                  s = now;
+                  until = refl;
+                  ended = λ y. not-now (inr (I .allowed← (c .k) (c .live) a now (le-refl now) (rw (c .who) at y)));
+                }),
+          ))
+        where
+          not-now : (List·Memᴰ a xs × (now < now + 300)) ⊎ HasPermission now a (v (c .k) .permissions) → ⊥
+          not-now o = gone (permission-before zero-le (c .perms← (I .neat (c .k) (c .live)) a now (le-refl now) o))
+
+      -- another client's requests are not among them
+      not-theirs : (D : FiveTuple) (a : Address) → D ≢ C → AnyAllowed (allowed C xs (now + 300) ∷ h) D a → AnyAllowed h D a
+      not-theirs D a apart (inl y) = absurd (apart (y .0))
+      not-theirs D a apart (inr y) = y
 
       out : (a : Address) (t : ℕ) → now ≤ t → Allowed (allowed C xs (now + 300) ∷ h) (v (c .k) .allocation .«five_tuple») a t → (List·Memᴰ a xs × (t < now + 300)) ⊎ HasPermission t a (v (c .k) .permissions)
       out a t le (inl y) = inl (y .1, y .2)

@@ -15,6 +15,7 @@ pub mod Fits
 pub mod Denied
 pub mod ReadBack
 pub mod Own
+pub mod Causes
 pub mod Corollaries
 pub mod Repeats
 pub mod Shut

@@ -2,8 +2,8 @@
 use Prim.Native.Nat.{ℕ, _+_, _<_}
 use mathlib.Core.Path.{_≡_, refl, sym, _∙_}
 use mathlib.Core.Logic.{_⊎_, inl, inr}
-use mathlib.Core.Bool.{Bool, true, false, not, false≢true}
-use mathlib.Core.List.{List}
+use mathlib.Core.Bool.{Bool, true, false, true≢false, false≢true}
+use mathlib.Core.List.{List, [], _∷_, List·Memᴰ, List·Memᴰ·head}
 use native.Mathlib.Omega.{arith}
 use native.Mathlib.Nat.{not-suc-le-zero}
 use lib.Dec.{eqb}
@@ -15,25 +15,21 @@ use Rattle.address.specs.declared.Address.{Address}
 use Rattle.address.specs.declared.FiveTuple.{FiveTuple}
 use Rattle.stun.specs.declared.kinds.Method.{Method}
 use Rattle.stun.specs.declared.kinds.Method.the-variants.{Allocate, Refresh, CreatePermission, ChannelBind}
-use Rattle.stun.specs.declared.message.ValuePlace.{ValuePlace}
-use Rattle.stun.specs.declared.message.ValuePlace.the-variants.{Value, Absent}
-use Rattle.stun.specs.declared.channel_data.ChannelMessage.{ChannelMessage}
-use Rattle.stun.specs.declared.channel_data.ChannelMessage.the-variants.{Data, Malformed}
-use Rattle.stun.specs.AttributeNumbers as attribute
-use Rattle.stun.specs.Message.{attributes, firstOf, channelDataOf}
+use Rattle.stun.specs.declared.values.AddressValue.{AddressValue}
 use Rattle.stun.specs.Values.{transactionId, peers, firstPeer}
 use Rattle.slot.specs.declared.Slot.{Slot}
 use Rattle.slot.specs.declared.Found.{Found}
 use Rattle.slot.specs.declared.Found.the-variants.{At, Nothing}
 use Rattle.slot.specs.Search.{find, has, atOr}
-use Rattle.slot.specs.Slot.{freshSlot, freshChannel, holds, numbered}
+use Rattle.slot.specs.Slot.{freshSlot, holds}
 use Rattle.table.specs.Table.{slotAt, inSlot, lapsed}
 use Rattle.rules.specs.declared.requests.ClientCall.{ClientCall}
-use Rattle.rules.specs.Change.{Out, dropped, toClient, toPeer, Change, keep, write, errorMessage, respond}
-use Rattle.rules.specs.Values.{lifetime, channelNumber, numberGiven, anyUnknown, malformedPeer, ipv6Peer}
+use Rattle.rules.specs.Change.{otherCause, Out, dropped, toClient, Change, keep, write, errorMessage, respond}
+use Rattle.rules.specs.Values.{lifetime, channelNumber, numberGiven, none}
 use Rattle.allocation_rules.specs.Allocations.{repeats, allocateCode, allocated, toldAgain, newlyMade, allocate, renewed, refreshed, refresh, granted, grantedRefresh}
 use Rattle.permission_rules.specs.Permissions.{createPermission, channelBind}
-use Rattle.data_rules.specs.Data.{permitted, sentFrom, send, channelledFrom, sendChannelData}
+use Rattle.data_rules.specs.Data.{send, sendChannelData}
+use Rattle.data_rules.proofs.Laws.{send-is, channelled-is}
 use Rattle.decisions.specs.declared.client.Asked.{Asked}
 use Rattle.decisions.specs.declared.client.Asked.the-variants as Asked
 use Rattle.decisions.specs.Client.{askedBy}
@@ -48,7 +44,7 @@ use Rattle.decisions.specs.Decisions.{asRules, ownPlace, slotIn, roomFor, onAsk
 use Rattle.state.specs.Step.{done}
 use Rattle.client_reader.specs.Fields.{Bytes}
 use Rattle.history.specs.Counted.{Counted, withoutRepeats}
-use Rattle.history.specs.Events.{CallFits, countsBy}
+use Rattle.history.specs.Events.{CallFits, addressesOf, countsBy}
 use Rattle.history.specs.Statement.{Live}
 use Rattle.history.proofs.Table as table
 use Rattle.history.proofs.Table.{View, Frame, Quiet, Accounts, has-lifetime, no-lifetime}
@@ -85,9 +81,10 @@ respond-keeps fiveTuple method s code slot out = go (eqb code 0)
     go true = writes slot out
     go false = keeps _ (error-unaccepted fiveTuple method s code)
 
-pick-unaccepted : (b : Bool) (out : Out) → Unaccepted out → Unaccepted (pick b dropped out)
-pick-unaccepted true out u = dropped-unaccepted
-pick-unaccepted false out u = u
+-- a request that was accepted names an address
+some-address : (l : List AddressValue) → none l ≡ false → (a : Address) × List·Memᴰ a (addressesOf l)
+some-address [] e = absurd (true≢false e)
+some-address (v ∷ l) e = (v .peer .address, List·Memᴰ·head refl)
 
 module _ (call : FromClient) (st : State) (s reply : List ℕ) (full : length (st .slots) ≡ 64) (fits : CallFits (Client call)) (bytes : Bytes s)
     (past : List Counted) (I : Accounts (call .time) (slotAt (st .slots)) past) where
@@ -211,9 +208,9 @@ module _ (call : FromClient) (st : State) (s reply : List ℕ) (full : length (s
             })
 
     -- a request for these addresses made this slot
-    admitted : (xs : List Address) (made : Slot) → slot ≡ made → Admits (call .time) xs (slotAt l k) made
+    admitted : (xs : List Address) (made : Slot) → (a : Address) × List·Memᴰ a xs → slot ≡ made → Admits (call .time) xs (slotAt l k) made
         → table.Admit (call .time) (slotAt l) (slotAt (set l k slot)) (call .«five_tuple») xs
-    admitted xs made e x =
+    admitted xs made some e x =
         let is : slotAt (set l k slot) k ≡ made = put-same k slot room ∙ e in
         let g = x .grants in
         record {
@@ -225,6 +222,7 @@ module _ (call : FromClient) (st : State) (s reply : List ℕ) (full : length (s
           port = rw (is, x .allocation-is);
           until = rw (is, x .allocation-is);
           neat = λ n. rw is (record { perms = g .neat (n .perms); chans = x .channels-neat (n .chans) });
+          some = some;
           perms→ = rw is (g .to);
           perms← = rw is (λ n. g .from (n .perms));
         }
@@ -233,43 +231,20 @@ module _ (call : FromClient) (st : State) (s reply : List ℕ) (full : length (s
     permitted-made denied asked e =
         let r = permits (asRules call) s slot out own (slotAt l k) e in
         rw (r .out-is, permission-counts call s reply bytes (asks-for CreatePermission s asked))
-        (refl, admitted _ _ (r .slot-is) (all-admitted (call .time) (peers s) (slotAt l k) (r .room)))
+        (refl, admitted _ _ (some-address (peers s) (r .some-peer)) (r .slot-is) (all-admitted (call .time) (peers s) (slotAt l k) (r .room)))
 
     bound-made : (denied : Bool) → askedBy s ≡ Asked.ChannelBind → channelBind (asRules call) s denied own (slotAt l k) ≡ write slot out → Made (put k slot out)
     bound-made denied asked e =
         let r = binds (asRules call) s slot out own (slotAt l k) e in
         rw (r .out-is, channel-counts call s reply bytes (asks-for ChannelBind s asked))
-        (refl, admitted _ _ (r .slot-is) (bound-admitted (call .time) (numberGiven (channelNumber s)) (firstPeer s .peer) (slotAt l k) (r .peer-free) (r .permitted) (r .bound-ok)))
+        (refl, admitted _ _ (firstPeer s .peer .address, List·Memᴰ·head refl) (r .slot-is) (bound-admitted (call .time) (numberGiven (channelNumber s)) (firstPeer s .peer) (slotAt l k) (r .peer-free) (r .permitted) (r .bound-ok)))
 
 -- ---- What is given out without a change of the slot counts as nothing
 pub send-unaccepted : (call : ClientCall) (s : List ℕ) (own : Bool) (slot : Slot) → Unaccepted (send call s own slot)
-unfolding send
-send-unaccepted call s own slot =
-    let place = firstOf attribute.«data» (attributes s) in
-    let e = pick (not (permitted (call .time) (firstPeer s .peer) slot)) dropped (sentFrom call s slot place) in
-    let d = pick (ipv6Peer (firstPeer s)) dropped e in
-    let c = pick (malformedPeer (firstPeer s)) dropped d in
-    let b = pick (not own) dropped c in
-    pick-unaccepted (anyUnknown s) b
-    (pick-unaccepted (not own) c
-    (pick-unaccepted (malformedPeer (firstPeer s)) d
-    (pick-unaccepted (ipv6Peer (firstPeer s)) e
-    (pick-unaccepted (not (permitted (call .time) (firstPeer s .peer) slot)) (sentFrom call s slot place) (payload place)))))
-  where
-    payload : (place : ValuePlace) → Unaccepted (sentFrom call s slot place)
-    payload (Value start len) = to-peer-unaccepted _ _ start len
-    payload Absent = dropped-unaccepted
+send-unaccepted call s own slot = send-is Unaccepted dropped-unaccepted call s own slot (λ start len e live. to-peer-unaccepted _ _ start len)
 
 pub channelled-unaccepted : (call : ClientCall) (s : List ℕ) (own : Bool) (slot : Slot) → Unaccepted (sendChannelData call s own slot)
-unfolding sendChannelData
-channelled-unaccepted call s own slot = go (channelDataOf s)
-  where
-    go : (message : ChannelMessage) → Unaccepted (channelledFrom call slot own message)
-    go (Data number start len) =
-        let found = find (numbered (call .time) number) (slot .channels) in
-        let out = toPeer (slot .allocation .port) (atOr freshChannel found (slot .channels) .peer) start len in
-        pick-unaccepted (not own) (pick (not (has found)) dropped out) (pick-unaccepted (not (has found)) out (to-peer-unaccepted _ _ start len))
-    go Malformed = dropped-unaccepted
+channelled-unaccepted call s own slot = channelled-is Unaccepted dropped-unaccepted call s own slot (λ number start len e there. to-peer-unaccepted _ _ start len)
 
 -- ---- A client's datagram
 module _ (call : FromClient) (st : State) (s reply : List ℕ) (full : length (st .slots) ≡ 64) (fits : CallFits (Client call)) (bytes : Bytes s)
@@ -317,4 +292,4 @@ module _ (call : FromClient) (st : State) (s reply : List ℕ) (full : length (s
       (λ k room live mine slot out e. bound-made call st s reply full fits bytes past I k room live mine true slot out denied is e)
   made-asked denied Asked.Send is = made-data (send (asRules call) s) (send-unaccepted (asRules call) s)
   made-asked denied Asked.ChannelData is = made-data (sendChannelData (asRules call) s) (channelled-unaccepted (asRules call) s)
-  made-asked denied Asked.Nothing is = made-stay call st s reply full fits bytes past I dropped dropped-unaccepted
+  made-asked denied Asked.Nothing is = made-stay call st s reply full fits bytes past I (dropped otherCause) (dropped-unaccepted otherCause)

@@ -17,14 +17,14 @@ use Rattle.messages.specs.Messages.{errorResponse, allocateSuccess, refreshSucc
 use Rattle.slot.specs.declared.Permission.{Permission}
 use Rattle.slot.specs.declared.Channel.{Channel}
 use Rattle.slot.specs.Search.{find, entry, putAt, atOr}
-use Rattle.slot.specs.Slot.{liveAllocation, livePermission, liveChannel, freshTransactionId, freshPermission, freshChannel, freshSlot, isChannelNumber, holds, holdsUser, holdsPort, permits, freePermission, permissionEntry, permit, numbered, leadsTo, numberTaken, peerTaken, freeChannel, channelEntry, bind}
+use Rattle.slot.specs.Slot.{liveAllocation, livePermission, liveChannel, freshTransactionId, freshPermission, freshChannel, freshSlot, isChannelNumber, holds, holdsUser, holdsPort, permits, entered, permissionState, freePermission, permissionEntry, permit, numbered, leadsTo, numberTaken, peerTaken, freeChannel, channelEntry, bind}
 use Rattle.table.specs.Table.{count}
-use Rattle.rules.specs.Change.{Out, dropped, toClient, check, errorMessage, respond}
+use Rattle.rules.specs.Change.{permissionLapsed, Out, dropped, toClient, check, errorMessage, respond}
 use Rattle.rules.specs.Values.{anyUnknown, malformedPeer, ipv6Peer}
 use Rattle.rules.specs.Requests.{requestCode, ownCode}
 use Rattle.allocation_rules.specs.Allocations.{repeats, allocateCode, allocated, secondsLeft, allocate, refreshCode, renewed, refreshed, refresh, firstFree, portFor}
 use Rattle.permission_rules.specs.Permissions.{permitPeer, permitAll, createPermissionCode, createPermission, bound, channelBindCode, channelBind}
-use Rattle.data_rules.specs.Data.{permitted, relayed, relayFromPeer}
+use Rattle.data_rules.specs.Data.{permissionOf, unlessDropped, relayed, peerCause, relayFromPeer}
 use Rattle.decisions.specs.Client.{askedBy}
 use Rattle.interface.specs.declared.incoming.Call.{Call}
 use Rattle.denied.specs.Tree.{deniedBelow, denied}
@@ -176,10 +176,10 @@ pub record Marked : Type 0 where
   -- 'permission made at 1010 carries at 1309 and not at 1310'
   pub permission-1309 : Then permission (dataAt 1309)
       (accept (holding 1309 1600 permitted1010 unbound) (toClient client (header 0 0x17 20 ++ peerAddress ++ 0 ∷ 0x13 ∷ 0 ∷ 2 ∷ 0x68 ∷ 0x69 ∷ 0 ∷ 0 ∷ [])))
-  pub permission-1310 : Then permission (dataAt 1310) (accept (holding 1310 1600 permitted1010 unbound) dropped)
+  pub permission-1310 : Then permission (dataAt 1310) (accept (holding 1310 1600 permitted1010 unbound) (dropped permissionLapsed))
 
 pub marked : Marked
-unfolding act refusal decided accepted portsHeld askedBy permitted relayed relayFromPeer requestCode ownCode repeats allocateCode allocated secondsLeft allocate refreshCode renewed refreshed refresh permitPeer permitAll createPermissionCode createPermission bound channelBindCode channelBind firstFree portFor anyUnknown any malformedPeer ipv6Peer check errorMessage respond liveAllocation livePermission liveChannel freshSlot isChannelNumber holds holdsUser holdsPort permits freePermission permissionEntry permit numbered leadsTo numberTaken peerTaken freeChannel channelEntry bind find entry putAt atOr count errorResponse allocateSuccess refreshSuccess bareSuccess dataIndication transactionId v4At addressAt peersOf peersFrom firstPeer numberValue sorted nextAt stepAt walkF walk wellFormed isIntegrity isUnknown attributesFrom firstOf unknownNumbers unknownTypes attributeKindOf sameAddress sameTransportAddress sameFiveTuple sameTransactionId both num bytesOf denied deniedBelow
+unfolding act refusal decided accepted portsHeld askedBy permissionState entered permissionOf unlessDropped peerCause relayed relayFromPeer requestCode ownCode repeats allocateCode allocated secondsLeft allocate refreshCode renewed refreshed refresh permitPeer permitAll createPermissionCode createPermission bound channelBindCode channelBind firstFree portFor anyUnknown any malformedPeer ipv6Peer check errorMessage respond liveAllocation livePermission liveChannel freshSlot isChannelNumber holds holdsUser holdsPort permits freePermission permissionEntry permit numbered leadsTo numberTaken peerTaken freeChannel channelEntry bind find entry putAt atOr count errorResponse allocateSuccess refreshSuccess bareSuccess dataIndication transactionId v4At addressAt peersOf peersFrom firstPeer numberValue sorted nextAt stepAt walkF walk wellFormed isIntegrity isUnknown attributesFrom firstOf unknownNumbers unknownTypes attributeKindOf sameAddress sameTransportAddress sameFiveTuple sameTransactionId both num bytesOf denied deniedBelow
 marked = record {
   allocate-0 = refl;
   allocate-600 = refl;

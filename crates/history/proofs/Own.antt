@@ -98,84 +98,85 @@ module _ (C : FiveTuple) (R : ℕ) where
       go true = refl
       go false = eq-eqb R R refl
 
-  module _ {a : Address} {t : ℕ} where
-    to-own : (list : List Counted) → GoesTo list C R a t → GoesTo (about list) C R a t
-    to-own list g = record {
-      since = about (g .since);
-      before = about (g .before);
-      s = g .s;
-      n = g .n;
-      allocate = ap about (g .allocate) ∙ only-split (concerns C R) (g .since) (g .before) _ (own-gift R (g .s) (g .n));
-      latest = λ P s n m. g .latest P s n (only-out (concerns C R) (g .since) m);
-      alone = λ D s n m. g .alone D s n (only-out (concerns C R) (g .since) m);
-      lifetime = lifetime (g .lifetime);
-      permission = record {
-        addresses = g .permission .addresses;
-        ends = g .permission .ends;
-        accepted = only-in (concerns C R) (g .since) (five-tuple-refl C) (g .permission .accepted);
-        named = g .permission .named;
-        recent = g .permission .recent;
-      };
-    }
-      where
-        lifetime : FromAllocate C t (g .s) (g .n) (g .since) ⊎ FromRefresh C t (g .since)
-            → FromAllocate C t (g .s) (g .n) (about (g .since)) ⊎ FromRefresh C t (about (g .since))
-        lifetime (inl o) = inl (record { none-since = λ s n m. o .none-since s n (only-out (concerns C R) (g .since) m); lasts = o .lasts })
-        lifetime (inr f) =
-            inr
-            (record {
-              newer = about (f .newer);
-              older = about (f .older);
-              s = f .s;
-              n = f .n;
-              refresh = ap about (f .refresh) ∙ only-split (concerns C R) (f .newer) (f .older) _ (five-tuple-refl C);
-              last = λ s n m. f .last s n (only-out (concerns C R) (f .newer) m);
-              lasts = f .lasts;
-            })
+  module _ {t : ℕ} where
+    lifetime-to : {s n : ℕ} (since : List Counted) → FromAllocate C t s n since ⊎ FromRefresh C t since
+        → FromAllocate C t s n (about since) ⊎ FromRefresh C t (about since)
+    lifetime-to since (inl o) = inl (record { none-since = λ s n m. o .none-since s n (only-out (concerns C R) since m); lasts = o .lasts })
+    lifetime-to since (inr f) =
+        inr
+        (record {
+          newer = about (f .newer);
+          older = about (f .older);
+          s = f .s;
+          n = f .n;
+          refresh = ap about (f .refresh) ∙ only-split (concerns C R) (f .newer) (f .older) _ (five-tuple-refl C);
+          last = λ s n m. f .last s n (only-out (concerns C R) (f .newer) m);
+          lasts = f .lasts;
+        })
 
-    of-own : (list : List Counted) → GoesTo (about list) C R a t → GoesTo list C R a t
-    of-own list g = go (parted (concerns C R) list (g .since) (g .before) _ (g .allocate))
-      where
-        lifetime : (since : List Counted) → FromAllocate C t (g .s) (g .n) (about since) ⊎ FromRefresh C t (about since)
-            → FromAllocate C t (g .s) (g .n) since ⊎ FromRefresh C t since
-        lifetime since (inl o) =
-            inl
-            (record {
-              none-since = λ s n m. o .none-since s n (only-in (concerns C R) since (five-tuple-refl C) m);
-              lasts = o .lasts;
-            })
-        lifetime since (inr f) =
-            let w = parted (concerns C R) since (f .newer) (f .older) (kept C (f .s) (f .n)) (f .refresh) in
-            inr
-            (record {
-              newer = w .front;
-              older = w .back;
-              s = f .s;
-              n = f .n;
-              refresh = w .whole;
-              last = λ s n m. f .last s n (subst (List·Memᴰ (kept C s n)) (w .passed) (only-in (concerns C R) (w .front) (five-tuple-refl C) m));
-              lasts = f .lasts;
-            })
+    lifetime-of : {s n : ℕ} (since : List Counted) → FromAllocate C t s n (about since) ⊎ FromRefresh C t (about since)
+        → FromAllocate C t s n since ⊎ FromRefresh C t since
+    lifetime-of since (inl o) =
+        inl (record { none-since = λ s n m. o .none-since s n (only-in (concerns C R) since (five-tuple-refl C) m); lasts = o .lasts })
+    lifetime-of since (inr f) =
+        let w = parted (concerns C R) since (f .newer) (f .older) (kept C (f .s) (f .n)) (f .refresh) in
+        inr
+        (record {
+          newer = w .front;
+          older = w .back;
+          s = f .s;
+          n = f .n;
+          refresh = w .whole;
+          last = λ s n m. f .last s n (subst (List·Memᴰ (kept C s n)) (w .passed) (only-in (concerns C R) (w .front) (five-tuple-refl C) m));
+          lasts = f .lasts;
+        })
 
-        go : Parted (concerns C R) list (gave C R (g .s) (g .n)) (g .since) → GoesTo list C R a t
-        go w = record {
-          since = w .front;
-          before = w .back;
-          s = g .s;
-          n = g .n;
-          allocate = w .whole;
-          latest = λ P s n m. g .latest P s n (subst (List·Memᴰ (gave C P s n)) (w .passed) (only-in (concerns C R) (w .front) (own-gift P s n) m));
-          alone = λ D s n m. g .alone D s n (subst (List·Memᴰ (gave D R s n)) (w .passed) (only-in (concerns C R) (w .front) (gift-of D s n) m));
-          lifetime = lifetime (w .front) (rw (← w .passed) at (g .lifetime));
-          permission = record {
-            addresses = g .permission .addresses;
-            ends = g .permission .ends;
-            accepted = only-out (concerns C R) (w .front) (rw (← w .passed) at (g .permission .accepted));
-            named = g .permission .named;
-            recent = g .permission .recent;
-          };
-        }
+    module _ {a : Address} where
+      to-own : (list : List Counted) → GoesTo list C R a t → GoesTo (about list) C R a t
+      to-own list g =
+          let d = g .holder in
+          let r = g .permission .request in
+          record {
+            holder = record {
+              since = about (d .since);
+              before = about (d .before);
+              s = d .s;
+              n = d .n;
+              allocate = ap about (d .allocate) ∙ only-split (concerns C R) (d .since) (d .before) _ (own-gift R (d .s) (d .n));
+              latest = λ P s n m. d .latest P s n (only-out (concerns C R) (d .since) m);
+              alone = λ D s n m. d .alone D s n (only-out (concerns C R) (d .since) m);
+              lifetime = lifetime-to (d .since) (d .lifetime);
+            };
+            permission = record {
+              request = record { addresses = r .addresses; ends = r .ends; accepted = only-in (concerns C R) (d .since) (five-tuple-refl C) (r .accepted); named = r .named };
+              recent = g .permission .recent;
+            };
+          }
 
-    -- two lists that agree on them agree on whether the datagram goes to C
-    pub goes-alike : (list others : List Counted) → about list ≡ about others → GoesTo list C R a t → GoesTo others C R a t
-    goes-alike list others e g = of-own others (subst (λ (l : List Counted). GoesTo l C R a t) e (to-own list g))
+      of-own : (list : List Counted) → GoesTo (about list) C R a t → GoesTo list C R a t
+      of-own list g = go (parted (concerns C R) list (g .holder .since) (g .holder .before) _ (g .holder .allocate))
+        where
+          go : Parted (concerns C R) list (gave C R (g .holder .s) (g .holder .n)) (g .holder .since) → GoesTo list C R a t
+          go w =
+              let d = g .holder in
+              let r = g .permission .request in
+              record {
+                holder = record {
+                  since = w .front;
+                  before = w .back;
+                  s = d .s;
+                  n = d .n;
+                  allocate = w .whole;
+                  latest = λ P s n m. d .latest P s n (subst (List·Memᴰ (gave C P s n)) (w .passed) (only-in (concerns C R) (w .front) (own-gift P s n) m));
+                  alone = λ D s n m. d .alone D s n (subst (List·Memᴰ (gave D R s n)) (w .passed) (only-in (concerns C R) (w .front) (gift-of D s n) m));
+                  lifetime = lifetime-of (w .front) (rw (← w .passed) at (d .lifetime));
+                };
+                permission = record {
+                  request = record { addresses = r .addresses; ends = r .ends; accepted = only-out (concerns C R) (w .front) (rw (← w .passed) at (r .accepted)); named = r .named };
+                  recent = g .permission .recent;
+                };
+              }
+
+      -- two lists that agree on them agree on whether the datagram goes to C
+      pub goes-alike : (list others : List Counted) → about list ≡ about others → GoesTo list C R a t → GoesTo others C R a t
+      goes-alike list others e g = of-own others (subst (λ (l : List Counted). GoesTo l C R a t) e (to-own list g))

@@ -2,7 +2,7 @@
 use Prim.Native.Nat.{ℕ, _+_, _-_, _≤_, _<_, _^_}
 use mathlib.Core.Path.{_≡_, refl, sym, ap, _∙_}
 use mathlib.Core.Logic.{_⊎_, inl, inr}
-use mathlib.Core.Bool.{Bool, true, false, not, true≢false, false≢true}
+use mathlib.Core.Bool.{Bool, true, false, true≢false, false≢true}
 use mathlib.Core.List.{List, []}
 use native.Mathlib.Omega.{arith}
 use lib.Dec.{eqb, lit<}
@@ -10,7 +10,6 @@ use lib.ListN.{length, take, drop, set, replicate}
 use lib.Seq.{take-at, getD-set-same}
 use borrow.Author.Tests.{eqb-true, eqb-false}
 use Rattle.choice.specs.Choice.{pick}
-use Rattle.choice.proofs.Laws.{chosen}
 use Rattle.address.specs.declared.Address.{Address}
 use Rattle.address.specs.declared.Address.the-variants.{V4, V6}
 use Rattle.address.specs.declared.FiveTuple.{FiveTuple}
@@ -18,19 +17,14 @@ use Rattle.address.specs.declared.TransportAddress.{TransportAddress}
 use Rattle.address.specs.declared.TransactionId.{TransactionId}
 use Rattle.stun.specs.declared.kinds.Method.{Method}
 use Rattle.stun.specs.declared.kinds.Method.the-variants.{Allocate, Refresh, CreatePermission, ChannelBind}
-use Rattle.stun.specs.declared.message.ValuePlace.{ValuePlace}
-use Rattle.stun.specs.declared.message.ValuePlace.the-variants.{Value, Absent}
-use Rattle.stun.specs.declared.channel_data.ChannelMessage.{ChannelMessage}
-use Rattle.stun.specs.declared.channel_data.ChannelMessage.the-variants.{Data, Malformed}
-use Rattle.stun.specs.AttributeNumbers as attribute
-use Rattle.stun.specs.Message.{attributes, firstOf, unknownTypes, channelDataOf}
-use Rattle.stun.specs.Values.{transactionId, firstPeer}
+use Rattle.stun.specs.Message.{unknownTypes}
+use Rattle.stun.specs.Values.{transactionId}
 use Rattle.messages.specs.Messages.{allocateSuccess, refreshSuccess, bareSuccess, errorResponse, unknownResponse, dataIndication, channelData}
 use Rattle.slot.specs.declared.Slot.{Slot}
 use Rattle.slot.specs.declared.Found.{Found}
 use Rattle.slot.specs.declared.Found.the-variants.{At, Nothing}
 use Rattle.slot.specs.Search.{find, has, orElse, atOr}
-use Rattle.slot.specs.Slot.{freshSlot, freshChannel, numbered, leadsTo}
+use Rattle.slot.specs.Slot.{freshSlot, freshChannel, leadsTo}
 use Rattle.table.specs.Table.{slotAt}
 use Rattle.table.specs.Inner.{Within}
 use Rattle.table.proofs.Laws.{found-within}
@@ -38,11 +32,12 @@ use Rattle.rules.specs.declared.answer.Outcome.the-variants.{ToClient}
 use Rattle.rules.specs.Change as rules
 use Rattle.rules.specs.Change.{Out, dropped, toClient, toPeer, Change, keep, write, outOf, errorMessage, respond}
 use Rattle.rules.specs.Inner.{slotAfter}
-use Rattle.rules.specs.Values.{lifetime, anyUnknown, isIpv6, ipv4Of, malformedPeer, ipv6Peer}
+use Rattle.rules.specs.Values.{lifetime, anyUnknown, ipv4Of}
 use Rattle.allocation_rules.specs.Allocations.{repeats, allocated, allocateReply, secondsLeft, toldAgain, newlyMade, allocate, renewed, refreshed, refresh, granted, grantedRefresh}
 use Rattle.permission_rules.specs.Denials.{anyDenied, firstDenied}
 use Rattle.permission_rules.specs.Permissions.{createPermission, channelBind}
-use Rattle.data_rules.specs.Data.{permitted, sentFrom, send, channelledFrom, sendChannelData, relayed, relayFromPeer}
+use Rattle.data_rules.specs.Data.{send, sendChannelData, relayed, relayFromPeer}
+use Rattle.data_rules.proofs.Laws.{send-is, channelled-is, from-peer-is}
 use Rattle.decisions.specs.declared.client.Asked.{Asked}
 use Rattle.decisions.specs.declared.client.Asked.the-variants as Asked
 use Rattle.decisions.specs.Client.{askedBy}
@@ -72,7 +67,7 @@ use Rattle.history.specs.ReadBack.{freePlace, successFor, unknownFor, er
 use Rattle.history.proofs.Tests.{find-some, leads-is}
 use Rattle.history.proofs.FreePort.{port-fits}
 use Rattle.history.proofs.Fits.{found-fits, met-fits, empty-fits, slots-fit}
-use Rattle.history.proofs.Replies.{id-fits}
+use Rattle.history.proofs.Replies.{dropped-not-sent, id-fits}
 use Rattle.history.proofs.Codes.{Coded, allocate-coded, refresh-coded, permission-coded, channel-coded, types-in-range}
 
 -- ---- Each message
@@ -119,7 +114,7 @@ channel-back number payload low high few =
 
 -- what goes to a client is read as these fields
 abbrev Readable : ReadMessage → List ℕ → Out → Type 0
-Readable fields payload dropped = Unit
+Readable fields payload (dropped cause) = Unit
 Readable fields payload (toClient fiveTuple message) = ReadAs fields payload message
 Readable fields payload (toPeer port peer start len) = Unit
 
@@ -249,27 +244,10 @@ module _ (s : List ℕ) (bytes : Bytes s) where
 
     -- ---- A client's data
     send-readable : Readable nothing [] (send (asRules call) s own slot)
-    unfolding send
-    send-readable =
-        chosen (Readable nothing []) (anyUnknown s) (λ _. tt) (λ _.
-        chosen (Readable nothing []) (not own) (λ _. tt) (λ _.
-        chosen (Readable nothing []) (malformedPeer (firstPeer s)) (λ _. tt) (λ _.
-        chosen (Readable nothing []) (ipv6Peer (firstPeer s)) (λ _. tt) (λ _.
-        chosen (Readable nothing []) (not (permitted (call .time) (firstPeer s .peer) slot)) (λ _. tt) (λ _. go (firstOf attribute.«data» (attributes s)))))))
-      where
-        go : (place : ValuePlace) → Readable nothing [] (sentFrom (asRules call) s slot place)
-        go (Value start len) = tt
-        go Absent = tt
+    send-readable = send-is (Readable nothing []) (λ cause. tt) _ s own slot (λ start len e live. tt)
 
     channelled-readable : Readable nothing [] (sendChannelData (asRules call) s own slot)
-    unfolding sendChannelData
-    channelled-readable = go (channelDataOf s)
-      where
-        go : (message : ChannelMessage) → Readable nothing [] (channelledFrom (asRules call) slot own message)
-        go (Data number start len) =
-            chosen (Readable nothing []) (not own) (λ _. tt) (λ _.
-            chosen (Readable nothing []) (not (has (find (numbered (call .time) number) (slot .channels)))) (λ _. tt) (λ _. tt))
-        go Malformed = tt
+    channelled-readable = channelled-is (Readable nothing []) (λ cause. tt) _ s own slot (λ number start len e there. tt)
 
     asked-readable : ((i : ℕ) → SlotFits (slotAt before i)) → (asked : Asked)
         → Left before after (onAsked (asksDenied denied s asked) call s before asked .place) (onAsked (asksDenied denied s asked) call s before asked .change)
@@ -307,12 +285,8 @@ module _ (call : FromPeer) (s : List ℕ) (fits : CallFits (Peer call)) (few : l
       go Nothing e = indication-back (call .id) (fits .1) peer (call .source .port) s (ipv4-fits (call .source .address) (fits .0 .0)) (fits .0 .1) few
 
   peer-readable : (own : Bool) (slot : Slot) → Readable (plain (relayedFor call (length s) slot)) s (relayFromPeer (call .time) (call .source) (call .id) s own slot)
-  unfolding relayFromPeer
   peer-readable own slot =
-      let back = Readable (plain (relayedFor call (length s) slot)) s in
-      chosen back (not own) (λ _. tt) (λ _.
-      chosen back (isIpv6 (call .source .address)) (λ _. tt) (λ _.
-      chosen back (not (permitted (call .time) (call .source) slot)) (λ _. tt) (λ _. relayed-back slot)))
+      from-peer-is (Readable (plain (relayedFor call (length s) slot)) s) (λ cause. tt) _ _ _ s own slot (λ live. relayed-back slot)
 
 -- ---- Every call
 
@@ -377,7 +351,7 @@ act-readable st a f =
 -- what the first n bytes of the reply hold, where the outcome is 'to the client, n bytes'
 sent-readable : (fields : ReadMessage) (payload : List ℕ) (out : Out) (reply : List ℕ) (C : FiveTuple) (n : ℕ) → Readable fields payload out
     → ToClient C n ≡ rules.outcomeOf out → ReadAs fields payload (take n (rules.replyAfter reply out))
-sent-readable fields payload dropped reply C n r e = let z : _≡_ {A = ℕ} 0 1 = cc in let y : ⊥ = omega arith in absurd y
+sent-readable fields payload (dropped cause) reply C n r e = dropped-not-sent cause (sym e)
 sent-readable fields payload (toClient D message) reply C n r e =
     let size : length message ≡ n = cc in
     rw (take-at message (drop (length message) reply) n size) r

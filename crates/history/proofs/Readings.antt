@@ -1,11 +1,12 @@
--- The three parts of `GoesTo` as readings of what was counted, one by one, the newest first; and that they say the same.
+-- The parts of `GoesTo`, and `Overtaken`, as readings of what was counted, one by one, the newest first; and that they say the same.
 use mathlib.Core.Path.{_≡_, refl, sym, _∙_, ap}
 use mathlib.Core.Logic.{_≢_, _⊎_, inl, inr, _↔_}
 use mathlib.Core.Bool.{Bool, true, false, not, true≢false, false≢true}
 use mathlib.Core.List.{List, [], _∷_, _++_, List·Memᴰ, List·Memᴰ·head, List·Memᴰ·tail, List·Memᴰ·not-nil, Memᴰ·append-left, append-assoc}
-use Prim.Native.Nat.{ℕ, _+_, _<_}
+use Prim.Native.Nat.{ℕ, _+_, _<_, _≤_}
 use native.Mathlib.Omega.{arith}
-use borrow.Author.Tests.{ltb-true, lt-ltb, eqb-false, ne-eqb, not-true}
+use lib.Dec.{ltb}
+use borrow.Author.Tests.{ltb-true, ltb-false, lt-ltb, eqb-false, ne-eqb, not-true}
 use Rattle.choice.specs.Choice.{pick}
 use Rattle.choice.proofs.Laws.{both-parts, both-true}
 use Rattle.address.specs.declared.Address.{Address}
@@ -13,7 +14,8 @@ use Rattle.address.specs.declared.FiveTuple.{FiveTuple}
 use Rattle.address.specs.Address.{sameFiveTuple}
 use Rattle.address.proofs.Laws.{five-tuple-same, five-tuple-refl}
 use Rattle.history.specs.Counted.{Counted, gave, kept, allowed, nothing, lasting, granted}
-use Rattle.history.specs.Statement.{Lasts, FromAllocate, FromRefresh, Permitted, GoesTo}
+use Rattle.history.specs.Statement.{Lasts, FromAllocate, FromRefresh, Had, HoldsPort, GoesTo}
+use Rattle.history.specs.Causes.{AllEnded, Overtaken}
 
 -- C holds R: its latest Allocate gave R, and nobody was given R after it
 abbrev pub Given : List Counted → FiveTuple → ℕ → Type 0
@@ -31,13 +33,37 @@ Granted (kept D s n ∷ h) C t = ((C ≡ D) × Lasts t s n) ⊎ ((C ≢ D) × Gr
 Granted (allowed D xs s ∷ h) C t = Granted h C t
 Granted (nothing ∷ h) C t = Granted h C t
 
--- since its latest Allocate C had a permission for a accepted that has not ended at t
+-- since its latest Allocate C had a permission for a accepted, of whose end something holds
+abbrev pub Accepted : (ℕ → Type 0) → List Counted → FiveTuple → Address → Type 0
+Accepted holds [] C a = ⊥
+Accepted holds (gave D P s n ∷ h) C a = (C ≢ D) × Accepted holds h C a
+Accepted holds (kept D s n ∷ h) C a = Accepted holds h C a
+Accepted holds (allowed D xs ends ∷ h) C a = ((C ≡ D) × List·Memᴰ a xs × holds ends) ⊎ Accepted holds h C a
+Accepted holds (nothing ∷ h) C a = Accepted holds h C a
+
+-- one that has not ended at t; one at all
 abbrev pub Allowed : List Counted → FiveTuple → Address → ℕ → Type 0
-Allowed [] C a t = ⊥
-Allowed (gave D P s n ∷ h) C a t = (C ≢ D) × Allowed h C a t
-Allowed (kept D s n ∷ h) C a t = Allowed h C a t
-Allowed (allowed D xs ends ∷ h) C a t = ((C ≡ D) × List·Memᴰ a xs × (t < ends)) ⊎ Allowed h C a t
-Allowed (nothing ∷ h) C a t = Allowed h C a t
+Allowed h C a t = Accepted (λ ends. t < ends) h C a
+
+abbrev pub AnyAllowed : List Counted → FiveTuple → Address → Type 0
+AnyAllowed h C a = Accepted (λ ends. Unit) h C a
+
+-- D's request for these addresses, accepted 300 seconds before it ends, is one of C when each for a had ended
+pub record Overtakes (h : List Counted) (C D : FiveTuple) (a : Address) (xs : List Address) (ends : ℕ) : Type 0 where
+  pub mine : C ≡ D
+  pub other : Address
+  pub named : List·Memᴰ other xs
+  pub s : ℕ
+  pub until : ends ≡ s + 300
+  pub ended : Allowed h C a s → ⊥
+
+-- since its latest Allocate, and after each permission for a had ended, C had another accepted, and none for a as late
+abbrev pub Forgotten : List Counted → FiveTuple → Address → Type 0
+Forgotten [] C a = ⊥
+Forgotten (gave D P s n ∷ h) C a = (C ≢ D) × Forgotten h C a
+Forgotten (kept D s n ∷ h) C a = Forgotten h C a
+Forgotten (allowed D xs ends ∷ h) C a = (C ≡ D → List·Memᴰ a xs → ⊥) × (Overtakes h C D a xs ends ⊎ Forgotten h C a)
+Forgotten (nothing ∷ h) C a = Forgotten h C a
 
 -- ---- a port and its holder determine each other
 pub given-port : (h : List Counted) (C : FiveTuple) (R P : ℕ) → Given h C R → Given h C P → R ≡ P
@@ -85,8 +111,26 @@ last-more : {C : FiveTuple} {t s n : ℕ} (d : Counted) {l : List Counted} → (
 last-more d f (inl o) = inl (record { none-since = λ s n. not-in (f s n) (o .none-since s n); lasts = o .lasts })
 last-more d f (inr g) = let e = g .refresh in inr (record { newer = d ∷ g .newer; older = g .older; s = g .s; n = g .n; refresh = cc; last = λ s n. not-in (f s n) (g .last s n); lasts = g .lasts })
 
-permitted-more : {C : FiveTuple} {a : Address} {t : ℕ} {d : Counted} {l : List Counted} → Permitted C a t l → Permitted C a t (d ∷ l)
-permitted-more p = record { addresses = p .addresses; ends = p .ends; accepted = List·Memᴰ·tail (p .accepted); named = p .named; recent = p .recent }
+-- a request of which something holds, among more that was counted
+had-more : (holds : ℕ → Type 0) {C : FiveTuple} {a : Address} {d : Counted} {l : List Counted} → (had : Had C a l) × holds (had .ends)
+    → (had : Had C a (d ∷ l)) × holds (had .ends)
+had-more holds p = (record { addresses = p .0 .addresses; ends = p .0 .ends; accepted = List·Memᴰ·tail (p .0 .accepted); named = p .0 .named }, p .1)
+
+-- an overtaken address stays so, where what is counted next is not a request for it
+overtaken-more : {C : FiveTuple} {a : Address} (d : Counted) {l : List Counted} → ((xs : List Address) (ends : ℕ) → allowed C xs ends ≡ d → List·Memᴰ a xs → ⊥)
+    → Overtaken C a l → Overtaken C a (d ∷ l)
+overtaken-more d f o = record {
+  newer = d ∷ o .newer;
+  older = o .older;
+  addresses = o .addresses;
+  s = o .s;
+  accepted = let e = o .accepted in cc;
+  other = o .other;
+  named = o .named;
+  another = o .another;
+  last = λ xs ends m named. not-in (λ e. f xs ends e named) (λ m. o .last xs ends m named) m;
+  lapsed = o .lapsed;
+}
 
 -- what is in the part after C's latest Allocate
 module _ (C : FiveTuple) (R s n : ℕ) (before : List Counted) where
@@ -114,27 +158,64 @@ module _ (C : FiveTuple) (R s n : ℕ) (before : List Counted) where
   granted-split t (allowed D xs s₁ ∷ h) l x = last-more (allowed D xs s₁) (λ s n e. let z : _≡_ {A = ℕ} 0 1 = cc in omega arith) (granted-split t h (λ P s n m. l P s n (List·Memᴰ·tail m)) x)
   granted-split t (nothing ∷ h) l x = last-more nothing (λ s n e. let z : _≡_ {A = ℕ} 0 1 = cc in omega arith) (granted-split t h (λ P s n m. l P s n (List·Memᴰ·tail m)) x)
 
-  allowed-join : (a : Address) (t : ℕ) (after : List Counted) → ((P s n : ℕ) → List·Memᴰ (gave C P s n) after → ⊥) → Permitted C a t after → Allowed (after ++ gave C R s n ∷ before) C a t
-  allowed-join a t after l p = at after l (p .accepted)
-    where
-      at : (after : List Counted) → ((P s n : ℕ) → List·Memᴰ (gave C P s n) after → ⊥) → List·Memᴰ (allowed C (p .addresses) (p .ends)) after → Allowed (after ++ gave C R s n ∷ before) C a t
-      at [] l m = absurd (List·Memᴰ·not-nil m)
-      at (gave D P s₁ n₁ ∷ h) l (List·Memᴰ·head e) = let z : _≡_ {A = ℕ} 0 1 = cc in absurd (omega arith)
-      at (gave D P s₁ n₁ ∷ h) l (List·Memᴰ·tail m) = ((λ e. l P s₁ n₁ (List·Memᴰ·head (cc))), at h (λ P s n m. l P s n (List·Memᴰ·tail m)) m)
-      at (kept D s₁ n₁ ∷ h) l (List·Memᴰ·head e) = let z : _≡_ {A = ℕ} 0 1 = cc in absurd (omega arith)
-      at (kept D s₁ n₁ ∷ h) l (List·Memᴰ·tail m) = at h (λ P s n m. l P s n (List·Memᴰ·tail m)) m
-      at (allowed D xs s₁ ∷ h) l (List·Memᴰ·head e) = let q : p .addresses ≡ xs = cc in let r : p .ends ≡ s₁ = cc in inl ((cc), rw (← q) (p .named), rw (← r) (p .recent))
-      at (allowed D xs s₁ ∷ h) l (List·Memᴰ·tail m) = inr (at h (λ P s n m. l P s n (List·Memᴰ·tail m)) m)
-      at (nothing ∷ h) l (List·Memᴰ·head e) = let z : _≡_ {A = ℕ} 0 1 = cc in absurd (omega arith)
-      at (nothing ∷ h) l (List·Memᴰ·tail m) = at h (λ P s n m. l P s n (List·Memᴰ·tail m)) m
+  module _ (a : Address) where
+    pub accepted-join : (holds : ℕ → Type 0) (after : List Counted) → ((P s n : ℕ) → List·Memᴰ (gave C P s n) after → ⊥) → (had : Had C a after) → holds (had .ends)
+        → Accepted holds (after ++ gave C R s n ∷ before) C a
+    accepted-join holds after l had x = at after l (had .accepted)
+      where
+        at : (after : List Counted) → ((P s n : ℕ) → List·Memᴰ (gave C P s n) after → ⊥) → List·Memᴰ (allowed C (had .addresses) (had .ends)) after
+            → Accepted holds (after ++ gave C R s n ∷ before) C a
+        at [] l m = absurd (List·Memᴰ·not-nil m)
+        at (gave D P s₁ n₁ ∷ h) l (List·Memᴰ·head e) = let z : _≡_ {A = ℕ} 0 1 = cc in absurd (omega arith)
+        at (gave D P s₁ n₁ ∷ h) l (List·Memᴰ·tail m) = ((λ e. l P s₁ n₁ (List·Memᴰ·head (cc))), at h (λ P s n m. l P s n (List·Memᴰ·tail m)) m)
+        at (kept D s₁ n₁ ∷ h) l (List·Memᴰ·head e) = let z : _≡_ {A = ℕ} 0 1 = cc in absurd (omega arith)
+        at (kept D s₁ n₁ ∷ h) l (List·Memᴰ·tail m) = at h (λ P s n m. l P s n (List·Memᴰ·tail m)) m
+        at (allowed D xs s₁ ∷ h) l (List·Memᴰ·head e) = let q : had .addresses ≡ xs = cc in let r : had .ends ≡ s₁ = cc in inl ((cc), rw (← q) (had .named), rw (← r) x)
+        at (allowed D xs s₁ ∷ h) l (List·Memᴰ·tail m) = inr (at h (λ P s n m. l P s n (List·Memᴰ·tail m)) m)
+        at (nothing ∷ h) l (List·Memᴰ·head e) = let z : _≡_ {A = ℕ} 0 1 = cc in absurd (omega arith)
+        at (nothing ∷ h) l (List·Memᴰ·tail m) = at h (λ P s n m. l P s n (List·Memᴰ·tail m)) m
 
-  allowed-split : (a : Address) (t : ℕ) (after : List Counted) → Allowed (after ++ gave C R s n ∷ before) C a t → Permitted C a t after
-  allowed-split a t [] x = absurd (x .0 refl)
-  allowed-split a t (gave D P s₁ n₁ ∷ h) x = permitted-more (allowed-split a t h (x .1))
-  allowed-split a t (kept D s₁ n₁ ∷ h) x = permitted-more (allowed-split a t h x)
-  allowed-split a t (allowed D xs s₁ ∷ h) (inl x) = let q : allowed C xs s₁ ≡ allowed D xs s₁ = ap (λ (X : FiveTuple). allowed X xs s₁) (x .0) in record { addresses = xs; ends = s₁; accepted = List·Memᴰ·head q; named = x .1; recent = x .2 }
-  allowed-split a t (allowed D xs s₁ ∷ h) (inr x) = permitted-more (allowed-split a t h x)
-  allowed-split a t (nothing ∷ h) x = permitted-more (allowed-split a t h x)
+    pub accepted-split : (holds : ℕ → Type 0) (after : List Counted) → Accepted holds (after ++ gave C R s n ∷ before) C a → (had : Had C a after) × holds (had .ends)
+    accepted-split holds [] x = absurd (x .0 refl)
+    accepted-split holds (gave D P s₁ n₁ ∷ h) x = had-more holds (accepted-split holds h (x .1))
+    accepted-split holds (kept D s₁ n₁ ∷ h) x = had-more holds (accepted-split holds h x)
+    accepted-split holds (allowed D xs s₁ ∷ h) (inl x) = let q : allowed C xs s₁ ≡ allowed D xs s₁ = ap (λ (X : FiveTuple). allowed X xs s₁) (x .0) in (record { addresses = xs; ends = s₁; accepted = List·Memᴰ·head q; named = x .1 }, x .2)
+    accepted-split holds (allowed D xs s₁ ∷ h) (inr x) = had-more holds (accepted-split holds h x)
+    accepted-split holds (nothing ∷ h) x = had-more holds (accepted-split holds h x)
+
+    -- where none that lasts at t was accepted, each has ended at t
+    pub all-ended : (t : ℕ) (after : List Counted) → ((P s n : ℕ) → List·Memᴰ (gave C P s n) after → ⊥) → (Allowed (after ++ gave C R s n ∷ before) C a t → ⊥) → AllEnded after C a t
+    all-ended t after l none xs ends m named = go (ltb t ends) refl
+      where
+        go : (b : Bool) → ltb t ends ≡ b → ends ≤ t
+        go true e = absurd (none (accepted-join (λ e. t < e) after l (record { addresses = xs; ends = ends; accepted = m; named = named }) (ltb-true t ends e)))
+        go false e = ltb-false t ends e
+
+    pub forgotten-split : (after : List Counted) → ((P s n : ℕ) → List·Memᴰ (gave C P s n) after → ⊥) → Forgotten (after ++ gave C R s n ∷ before) C a → Overtaken C a after
+    forgotten-split [] l x = absurd (x .0 refl)
+    forgotten-split (gave D P s₁ n₁ ∷ h) l x =
+        overtaken-more (gave D P s₁ n₁) (λ xs ends e m. let z : _≡_ {A = ℕ} 0 1 = cc in omega arith) (forgotten-split h (λ P s n m. l P s n (List·Memᴰ·tail m)) (x .1))
+    forgotten-split (kept D s₁ n₁ ∷ h) l x =
+        overtaken-more (kept D s₁ n₁) (λ xs ends e m. let z : _≡_ {A = ℕ} 0 1 = cc in omega arith) (forgotten-split h (λ P s n m. l P s n (List·Memᴰ·tail m)) x)
+    forgotten-split (allowed D ys ends ∷ h) l x = go (x .1) (forgotten-split h (λ P s n m. l P s n (List·Memᴰ·tail m)))
+      where
+        go : Overtakes (h ++ gave C R s n ∷ before) C D a ys ends ⊎ Forgotten (h ++ gave C R s n ∷ before) C a
+            → (Forgotten (h ++ gave C R s n ∷ before) C a → Overtaken C a h) → Overtaken C a (allowed D ys ends ∷ h)
+        go (inl o) older = record {
+          newer = [];
+          older = h;
+          addresses = ys;
+          s = o .s;
+          accepted = let q = o .mine in let u = o .until in cc;
+          other = o .other;
+          named = o .named;
+          another = λ e. x .0 (o .mine) (rw e at (o .named));
+          last = λ xs until m named. not-in (λ e. x .0 (o .mine) (let q : xs ≡ ys = cc in rw q at named)) List·Memᴰ·not-nil m;
+          lapsed = all-ended (o .s) h (λ P s n m. l P s n (List·Memᴰ·tail m)) (o .ended);
+        }
+        go (inr f) older = overtaken-more (allowed D ys ends) (λ xs until e m. x .0 (cc) (let q : xs ≡ ys = cc in rw q at m)) (older f)
+    forgotten-split (nothing ∷ h) l x =
+        overtaken-more nothing (λ xs ends e m. let z : _≡_ {A = ℕ} 0 1 = cc in omega arith) (forgotten-split h (λ P s n m. l P s n (List·Memᴰ·tail m)) x)
 
 granted-again : (C : FiveTuple) (t s n : ℕ) (rest newer : List Counted) → ((P s n : ℕ) → List·Memᴰ (gave C P s n) newer → ⊥) → ((s n : ℕ) → List·Memᴰ (kept C s n) newer → ⊥) → Lasts t s n → Granted (newer ++ kept C s n ∷ rest) C t
 granted-again C t s n rest [] l k o = inl (refl, o)
@@ -153,16 +234,40 @@ granted-join C R s n before t after l (inr g) =
     (granted-again C t (g .s) (g .n) _ (g .newer) (λ P s n m. l P s n (rw (g .refresh) (Memᴰ·append-left _ m))) (g .last) (g .lasts)))
 
 -- the two readings agree
+module _ (h : List Counted) (C : FiveTuple) (R t : ℕ) where
+  pub holds→ : HoldsPort h C R t → Given h C R × Granted h C t
+  holds→ d = rw (d .allocate) (given-join C R _ _ _ _ (d .latest) (d .alone), granted-join C R _ _ _ t _ (d .latest) (d .lifetime))
+
+  pub holds← : Given h C R → Granted h C t → HoldsPort h C R t
+  holds← g l = go (given-split h C R g)
+    where
+      go : Is h C R → HoldsPort h C R t
+      go (is after before s n e la al) = record { since = after; before = before; s = s; n = n; allocate = e; latest = la; alone = al; lifetime = granted-split C R s n before t after la (rw e at l) }
+
+  -- and so do those of what was accepted since then
+  module _ (d : HoldsPort h C R t) (a : Address) where
+    pub had→ : (holds : ℕ → Type 0) (had : Had C a (d .since)) → holds (had .ends) → Accepted holds h C a
+    had→ holds had x = rw (d .allocate) (accepted-join C R _ _ _ a holds _ (d .latest) had x)
+
+    pub had← : (holds : ℕ → Type 0) → Accepted holds h C a → (had : Had C a (d .since)) × holds (had .ends)
+    had← holds x = accepted-split C R _ _ (d .before) a holds _ (rw (d .allocate) at x)
+
+    pub ended← : (Allowed h C a t → ⊥) → AllEnded (d .since) C a t
+    ended← none = all-ended C R _ _ (d .before) a t _ (d .latest) (rw (d .allocate) at none)
+
+    pub overtaken← : Forgotten h C a → Overtaken C a (d .since)
+    overtaken← x = forgotten-split C R _ _ (d .before) a _ (d .latest) (rw (d .allocate) at x)
+
 pub goes→ : (h : List Counted) (C : FiveTuple) (R : ℕ) (a : Address) (t : ℕ) → GoesTo h C R a t → Given h C R × Granted h C t × Allowed h C a t
 goes→ h C R a t d =
-    rw (d .allocate)
-    (given-join C R _ _ _ _ (d .latest) (d .alone), granted-join C R _ _ _ t _ (d .latest) (d .lifetime), allowed-join C R _ _ _ a t _ (d .latest) (d .permission))
+    let o = holds→ h C R t (d .holder) in
+    (o .0, o .1, had→ h C R t (d .holder) a (λ ends. t < ends) (d .permission .request) (d .permission .recent))
 
 pub goes← : (h : List Counted) (C : FiveTuple) (R : ℕ) (a : Address) (t : ℕ) → Given h C R → Granted h C t → Allowed h C a t → GoesTo h C R a t
-goes← h C R a t g l p = go (given-split h C R g)
-  where
-    go : Is h C R → GoesTo h C R a t
-    go (is after before s n e la al) = record { since = after; before = before; s = s; n = n; allocate = e; latest = la; alone = al; lifetime = granted-split C R s n before t after la (rw e at l); permission = allowed-split C R s n before a t after (rw e at p) }
+goes← h C R a t g l p =
+    let d = holds← h C R t g l in
+    let r = had← h C R t d a (λ ends. t < ends) p in
+    record { holder = d; permission = record { request = r .0; recent = r .1 } }
 
 -- ---- `granted` is the same, computed
 

@@ -21,8 +21,8 @@ use Rattle.slot.specs.declared.Found.the-variants.{Nothing}
 use Rattle.slot.specs.Search.{has, atOr}
 use Rattle.table.specs.Table.{slotAt}
 use Rattle.rules.specs.declared.answer.Outcome.{Outcome}
-use Rattle.rules.specs.declared.answer.Outcome.the-variants.{Refused, Dropped, ToClient, ToPeer}
-use Rattle.rules.specs.Change.{Out, Change, keep, dropped, toClient, outOf, errorMessage, respond}
+use Rattle.rules.specs.declared.answer.Outcome.the-variants.{Refused, DroppedLapsed, DroppedNever, DroppedOther, ToClient, ToPeer}
+use Rattle.rules.specs.Change.{otherCause, Out, Change, keep, dropped, toClient, outOf, errorMessage, respond}
 use Rattle.rules.specs.Values.{lifetime}
 use Rattle.allocation_rules.specs.Allocations.{repeats, allocateCode, secondsLeft, toldAgain, newlyMade, allocate}
 use Rattle.allocation_rules.specs.Allocations as rules
@@ -109,7 +109,9 @@ module _ (call : FromClient) (s : List ℕ) {C : FiveTuple} {port t seconds : �
 
   outcome-of : (o : Outcome) (reply : List ℕ) → countsBy (Client call) s o reply ≡ gave C port t seconds → Of call s C t
   outcome-of (Refused number) reply e = never refl e
-  outcome-of Dropped reply e = never refl e
+  outcome-of DroppedLapsed reply e = never refl e
+  outcome-of DroppedNever reply e = never refl e
+  outcome-of DroppedOther reply e = never refl e
   outcome-of (ToClient fiveTuple n) reply e = message-of (messageIn (take n reply) .message) e
   outcome-of (ToPeer p peer start len) reply e = never refl e
 
@@ -207,7 +209,7 @@ module _ (st : State) (past : List Counted) (I : AccountsFor past st) (typed : S
     asked-answers Asked.Send e = silent (ownPlace call l) (send (asRules call) s (has (ownPlace call l)) own) (send-unaccepted (asRules call) s _ _)
     asked-answers Asked.ChannelData e =
         silent (ownPlace call l) (sendChannelData (asRules call) s (has (ownPlace call l)) own) (channelled-unaccepted (asRules call) s _ _)
-    asked-answers Asked.Nothing e = silent Nothing dropped dropped-unaccepted
+    asked-answers Asked.Nothing e = silent Nothing (dropped otherCause) (dropped-unaccepted otherCause)
 
   call-answered : (call : Call) (s reply : List ℕ) → CallFits call → Bytes s → clockOf st ≤ timeOf call → Answers call s reply (accepted st call s)
   unfolding accepted decided

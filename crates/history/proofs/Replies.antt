@@ -3,6 +3,7 @@ use Prim.Native.Nat.{ℕ, _+_, _<_, _^_, _/_}
 use mathlib.Core.Path.{_≡_, refl, ap, _∙_}
 use mathlib.Core.Bool.{Bool, true, false}
 use mathlib.Core.List.{List, _∷_, [], _++_}
+use native.Mathlib.Omega.{arith}
 use lib.Dec.{eqb, leb}
 use lib.ListN.{length, take, drop}
 use lib.Seq.{take-at}
@@ -17,7 +18,9 @@ use Rattle.stun.specs.Kinds.{errorType}
 use Rattle.stun.specs.Message.{unknownTypes}
 use Rattle.stun.specs.Values.{transactionId, peers, firstPeer}
 use Rattle.messages.specs.Messages.{messageBytes, errorCodeAttribute, unknownAttribute, errorResponse, unknownResponse, allocateSuccess, refreshSuccess, bareSuccess}
-use Rattle.rules.specs.Change.{Out, dropped, toClient, toPeer, outcomeOf, replyAfter, errorMessage}
+use Rattle.rules.specs.declared.answer.Outcome.the-variants.{ToClient, ToPeer}
+use Rattle.interface.specs.Sending as Sending
+use Rattle.rules.specs.Change.{Cause, permissionLapsed, neverPermitted, otherCause, droppedFor, Out, dropped, toClient, toPeer, outcomeOf, replyAfter, errorMessage}
 use Rattle.interface.specs.declared.incoming.Call.the-variants.{Client}
 use Rattle.interface.specs.declared.incoming.FromClient.{FromClient}
 use Rattle.client_reader.specs.declared.ReadMessage.{ReadMessage}
@@ -105,12 +108,30 @@ error-message-silent method s code = go (eqb code 420)
         written-silent (unknownResponse method (transactionId s) (unknownTypes s)) (type-of method (transactionId s) body)
     go false = written-silent (errorResponse method (transactionId s) code) (type-of method (transactionId s) (errorCodeAttribute code))
 
+-- ---- A drop sends nothing, and is no other outcome
+pub dropped-sends : (cause : Cause) (datagram reply : List ℕ) → Sending.sent (droppedFor cause) datagram reply ≡ []
+dropped-sends permissionLapsed datagram reply = refl
+dropped-sends neverPermitted datagram reply = refl
+dropped-sends otherCause datagram reply = refl
+
+pub dropped-not-sent : {A : Type 0} (cause : Cause) {fiveTuple : FiveTuple} {len : ℕ} → droppedFor cause ≡ ToClient fiveTuple len → A
+dropped-not-sent permissionLapsed e = let z : _≡_ {A = ℕ} 0 1 = cc in let y : ⊥ = omega arith in absurd y
+dropped-not-sent neverPermitted e = let z : _≡_ {A = ℕ} 0 1 = cc in let y : ⊥ = omega arith in absurd y
+dropped-not-sent otherCause e = let z : _≡_ {A = ℕ} 0 1 = cc in let y : ⊥ = omega arith in absurd y
+
+pub dropped-not-relayed : {A : Type 0} (cause : Cause) {port : ℕ} {peer : TransportAddress} {start len : ℕ} → droppedFor cause ≡ ToPeer port peer start len → A
+dropped-not-relayed permissionLapsed e = let z : _≡_ {A = ℕ} 0 1 = cc in let y : ⊥ = omega arith in absurd y
+dropped-not-relayed neverPermitted e = let z : _≡_ {A = ℕ} 0 1 = cc in let y : ⊥ = omega arith in absurd y
+dropped-not-relayed otherCause e = let z : _≡_ {A = ℕ} 0 1 = cc in let y : ⊥ = omega arith in absurd y
+
 -- ---- What goes out and is no success counts as nothing
 pub record Unaccepted (out : Out) : Type 0 where
   pub counts : (call : FromClient) (s reply : List ℕ) → countsBy (Client call) s (outcomeOf out) (replyAfter reply out) ≡ nothing
 
-pub dropped-unaccepted : Unaccepted dropped
-dropped-unaccepted = record { counts = λ call s reply. refl }
+pub dropped-unaccepted : (cause : Cause) → Unaccepted (dropped cause)
+dropped-unaccepted permissionLapsed = record { counts = λ call s reply. refl }
+dropped-unaccepted neverPermitted = record { counts = λ call s reply. refl }
+dropped-unaccepted otherCause = record { counts = λ call s reply. refl }
 
 pub to-peer-unaccepted : (port : ℕ) (peer : TransportAddress) (start len : ℕ) → Unaccepted (toPeer port peer start len)
 to-peer-unaccepted port peer start len = record { counts = λ call s reply. refl }
@@ -177,6 +198,6 @@ module _ (call : FromClient) (s : List ℕ) (past : List Counted) (asked : asks 
   message-left-out Nothing = refl
 
   pub left-out : (out : Out) (reply : List ℕ) → withoutRepeats past (countsBy (Client call) s (outcomeOf out) (replyAfter reply out)) ≡ nothing
-  left-out dropped reply = refl
+  left-out (dropped cause) reply = ap (withoutRepeats past) (dropped-unaccepted cause .counts call s reply)
   left-out (toClient fiveTuple message) reply = message-left-out (messageIn (take (length message) (replyAfter reply (toClient fiveTuple message))) .message)
   left-out (toPeer port peer start len) reply = refl

@@ -15,15 +15,15 @@ use Rattle.stun.specs.Message.{sorted, nextAt, stepAt, walkF, walk, wellFormed,
 use Rattle.stun.specs.Values.{transactionId, v4At, addressAt, peersOf, peersFrom, numberValue}
 use Rattle.messages.specs.Messages.{allocateSuccess, bareSuccess, dataIndication}
 use Rattle.slot.specs.Search.{find, entry, putAt, atOr}
-use Rattle.slot.specs.Slot.{liveAllocation, livePermission, freshSlot, isChannelNumber, liveChannel, holds, holdsUser, holdsPort, permits, freePermission, permissionEntry, permit, leadsTo}
+use Rattle.slot.specs.Slot.{liveAllocation, livePermission, freshSlot, isChannelNumber, liveChannel, holds, holdsUser, holdsPort, permits, entered, permissionState, freePermission, permissionEntry, permit, leadsTo}
 use Rattle.table.specs.Table.{slotAt, count}
-use Rattle.rules.specs.declared.answer.Outcome.the-variants.{Dropped, ToClient}
+use Rattle.rules.specs.declared.answer.Outcome.the-variants.{DroppedLapsed, ToClient}
 use Rattle.rules.specs.Change.{check, respond}
 use Rattle.rules.specs.Values.{anyUnknown, malformedPeer, ipv6Peer}
 use Rattle.rules.specs.Requests.{requestCode, ownCode}
 use Rattle.allocation_rules.specs.Allocations.{repeats, allocateCode, allocated, allocate, firstFree, portFor}
 use Rattle.permission_rules.specs.Permissions.{permitPeer, permitAll, createPermissionCode, createPermission}
-use Rattle.data_rules.specs.Data.{permitted, relayed, relayFromPeer}
+use Rattle.data_rules.specs.Data.{permissionOf, unlessDropped, relayed, peerCause, relayFromPeer}
 use Rattle.decisions.specs.Client.{askedBy}
 use Rattle.denied.specs.Tree.{deniedBelow, denied, noneDenied}
 use Rattle.state.specs.State.{State, empty}
@@ -111,12 +111,12 @@ pub record Sample : Type 0 where
   pub allocate-line : Sends empty allocating (0x01 ∷ 0x03 ∷ 0x00 ∷ 0x20 ∷ 0x21 ∷ 0x12 ∷ 0xa4 ∷ 0x42 ∷ 0x00 ∷ 0x01 ∷ 0x02 ∷ 0x03 ∷ 0x04 ∷ 0x05 ∷ 0x06 ∷ 0x07 ∷ 0x08 ∷ 0x09 ∷ 0x0a ∷ 0x0b ∷ 0x00 ∷ 0x16 ∷ 0x00 ∷ 0x08 ∷ 0x00 ∷ 0x01 ∷ 0xe1 ∷ 0x17 ∷ 0xea ∷ 0x12 ∷ 0xd5 ∷ 0x47 ∷ 0x00 ∷ 0x0d ∷ 0x00 ∷ 0x04 ∷ 0x00 ∷ 0x00 ∷ 0x02 ∷ 0x58 ∷ 0x00 ∷ 0x20 ∷ 0x00 ∷ 0x08 ∷ 0x00 ∷ 0x01 ∷ 0xbd ∷ 0x52 ∷ 0xe7 ∷ 0x21 ∷ 0xc0 ∷ 0x45 ∷ [])
   pub permission-line : Sends (run empty (allocating ∷ [])) permitting (0x01 ∷ 0x08 ∷ 0x00 ∷ 0x00 ∷ 0x21 ∷ 0x12 ∷ 0xa4 ∷ 0x42 ∷ 0x10 ∷ 0x11 ∷ 0x12 ∷ 0x13 ∷ 0x14 ∷ 0x15 ∷ 0x16 ∷ 0x17 ∷ 0x18 ∷ 0x19 ∷ 0x1a ∷ 0x1b ∷ [])
   pub carried-line : Sends (run empty (allocating ∷ permitting ∷ [])) (coming 1309 (lit< tt)) (0x00 ∷ 0x17 ∷ 0x00 ∷ 0x14 ∷ 0x21 ∷ 0x12 ∷ 0xa4 ∷ 0x42 ∷ 0x00 ∷ 0x00 ∷ 0x00 ∷ 0x00 ∷ 0x00 ∷ 0x00 ∷ 0x00 ∷ 0x00 ∷ 0x00 ∷ 0x00 ∷ 0x00 ∷ 0x00 ∷ 0x00 ∷ 0x12 ∷ 0x00 ∷ 0x08 ∷ 0x00 ∷ 0x01 ∷ 0x32 ∷ 0x9a ∷ 0xe1 ∷ 0x12 ∷ 0xa6 ∷ 0xd4 ∷ 0x00 ∷ 0x13 ∷ 0x00 ∷ 0x02 ∷ 0x68 ∷ 0x69 ∷ 0x00 ∷ 0x00 ∷ [])
-  pub dropped-line : outcome (run empty (allocating ∷ permitting ∷ coming 1309 (lit< tt) ∷ [])) (coming 1310 (lit< tt)) ≡ Dropped
+  pub dropped-line : outcome (run empty (allocating ∷ permitting ∷ coming 1309 (lit< tt) ∷ [])) (coming 1310 (lit< tt)) ≡ DroppedLapsed
   pub listed : slotAt (run empty (allocating ∷ permitting ∷ coming 1309 (lit< tt) ∷ coming 1310 (lit< tt) ∷ []) .slots) 0 .allocation
       ≡ record { user = 3; «five_tuple» = caller; port = 49157; expiry = 1600 }
 
 pub sample : Sample
-unfolding act refusal askedBy sorted wellFormed walk walkF stepAt nextAt num decided allocate respond repeats allocateCode requestCode check anyUnknown unknownTypes unknownNumbers attributesFrom isIntegrity isUnknown attributeKindOf find holds holdsUser holdsPort liveAllocation both sameFiveTuple sameTransportAddress sameAddress freshSlot numberValue firstOf count portFor firstFree portsHeld allocated allocateSuccess bytesOf transactionId accepted createPermission createPermissionCode ownCode permitAll permitPeer permit permissionEntry entry putAt permits freePermission livePermission any malformedPeer ipv6Peer peersFrom peersOf addressAt v4At bareSuccess relayFromPeer permitted relayed leadsTo liveChannel isChannelNumber atOr dataIndication denied deniedBelow
+unfolding act refusal askedBy sorted wellFormed walk walkF stepAt nextAt num decided allocate respond repeats allocateCode requestCode check anyUnknown unknownTypes unknownNumbers attributesFrom isIntegrity isUnknown attributeKindOf find holds holdsUser holdsPort liveAllocation both sameFiveTuple sameTransportAddress sameAddress freshSlot numberValue firstOf count portFor firstFree portsHeld allocated allocateSuccess bytesOf transactionId accepted createPermission createPermissionCode ownCode permitAll permitPeer permit permissionEntry entry putAt permits freePermission livePermission any malformedPeer ipv6Peer peersFrom peersOf addressAt v4At bareSuccess relayFromPeer peerCause unlessDropped permissionOf permissionState entered relayed leadsTo liveChannel isChannelNumber atOr dataIndication denied deniedBelow
 sample = record {
   allocate-line = record { to = refl; holds = refl };
   permission-line = record { to = refl; holds = refl };

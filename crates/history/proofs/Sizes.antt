@@ -30,6 +30,7 @@ use Rattle.decisions.specs.Decisions.{asRules, roomFor, onAsked, decided}
 use Rattle.state.specs.Step.{done, decision, accepted, act}
 use Rattle.state.proofs.Laws.{acted}
 use Rattle.relay.proofs.Laws.{none-of}
+use Rattle.history.proofs.Replies.{dropped-sends, dropped-not-relayed}
 
 -- what an act gives out fits
 abbrev ActFits : List ℕ → Act → Type 0
@@ -83,7 +84,7 @@ nothing-larger st call s reply datagram buffer = go (act st call s reply) (act-f
   where
     go : (it : Act) → ActFits s it → length (sent (outcomeOf it) datagram buffer) ≤ 1536
     go (refuse number) f = omega arith
-    go (accept next dropped) f = omega arith
+    go (accept next (dropped cause)) f = rw (dropped-sends cause datagram buffer) (omega arith)
     go (accept next (toClient fiveTuple message)) f = omega (arith, part-short (leb (length message) (length buffer)) (length message) buffer, f .1)
     go (accept next (toPeer port peer start len)) f = omega (arith, part-short (leb (start + len) (length datagram)) len (drop start datagram), f .0, f .1)
 
@@ -94,7 +95,7 @@ payload-within st call s reply {port} {peer} {start} {len} e = go (act st call s
   where
     go : (it : Act) → ActFits s it → outcomeOf it ≡ ToPeer port peer start len → start + len ≤ length s
     go (refuse number) f e = let z : _≡_ {A = ℕ} 0 1 = cc in omega arith
-    go (accept next dropped) f e = let z : _≡_ {A = ℕ} 0 1 = cc in omega arith
+    go (accept next (dropped cause)) f e = dropped-not-relayed cause e
     go (accept next (toClient fiveTuple message)) f e = let z : _≡_ {A = ℕ} 0 1 = cc in omega arith
     go (accept next (toPeer port′ peer′ start′ len′)) f e =
         let x : start′ ≡ start = cc in

@@ -15,12 +15,20 @@ use Rattle.table.specs.Table.{slotAt}
 use Rattle.state.specs.State.{State, clockOf}
 use Rattle.history.specs.Counted.{Counted, gave, kept, allowed, nothing, granted}
 use Rattle.history.specs.Statement.{permissionAt, channelAt, Live, LiveChannel}
-use Rattle.history.proofs.Readings.{Given, Granted, Allowed, given-port, given-holder, granted-is}
+use Rattle.history.proofs.Readings.{Given, Granted, Allowed, AnyAllowed, Forgotten, given-port, given-holder, granted-is}
 
 pub record HasPermission (t : ℕ) (a : Address) (ps : List Permission) : Type 0 where
   pub at : ℕ
   pub same : (permissionAt ps at) .address ≡ a
   pub live : t < (permissionAt ps at) .expiry
+
+-- what lasts at a time lasted before it
+pub permission-before : {t u : ℕ} {a : Address} {ps : List Permission} → u ≤ t → HasPermission t a ps → HasPermission u a ps
+permission-before le p = record { at = p .at; same = p .same; live = omega (arith, p .live) }
+
+-- what the permissions show of an address: an entry for it; or none was accepted, or the last had ended when another was
+abbrev pub Known : List Counted → FiveTuple → Address → List Permission → Type 0
+Known h C a ps = HasPermission 0 a ps ⊎ ((AnyAllowed h C a → ⊥) ⊎ Forgotten h C a)
 
 -- within one slot: demand 3's second sentence; and no permission outlasts 300 seconds
 pub record NeatPermissions (t : ℕ) (ps : List Permission) : Type 0 where
@@ -101,7 +109,8 @@ pub record Admit (now : ℕ) (v w : View) (C : FiveTuple) (xs : List Address) : 
   pub port : w k .allocation .port ≡ v k .allocation .port
   pub until : w k .allocation .expiry ≡ v k .allocation .expiry
   pub neat : Tidy now (v k) → Tidy now (w k)
-  pub perms→ : (a : Address) (t : ℕ) → now ≤ t → HasPermission t a (w k .permissions) → (List·Memᴰ a xs × (t < now + 300)) ⊎ HasPermission t a (v k .permissions)
+  pub some : (a : Address) × List·Memᴰ a xs
+  pub perms→ : (a : Address) (t : ℕ) → HasPermission t a (w k .permissions) → (List·Memᴰ a xs × (t < now + 300)) ⊎ HasPermission t a (v k .permissions)
   pub perms← : Tidy now (v k) → (a : Address) (t : ℕ) → now ≤ t → (List·Memᴰ a xs × (t < now + 300)) ⊎ HasPermission t a (v k .permissions) → HasPermission t a (w k .permissions)
 
 -- what a call that counts as this does to the table, at its time
@@ -119,8 +128,9 @@ pub record Accounts (clock : ℕ) (v : View) (h : List Counted) : Type 0 where
   pub given : (i : ℕ) → Live clock (v i) → Given h (v i .allocation .«five_tuple») (v i .allocation .port)
   pub granted→ : (i : ℕ) → Live clock (v i) → (t : ℕ) → clock ≤ t → t < v i .allocation .expiry → Granted h (v i .allocation .«five_tuple») t
   pub granted← : (C : FiveTuple) (t : ℕ) → clock ≤ t → Granted h C t → (i : ℕ) × (v i .allocation .«five_tuple» ≡ C) × (t < v i .allocation .expiry)
-  pub allowed→ : (i : ℕ) → Live clock (v i) → (a : Address) (t : ℕ) → clock ≤ t → HasPermission t a (v i .permissions) → Allowed h (v i .allocation .«five_tuple») a t
+  pub allowed→ : (i : ℕ) → Live clock (v i) → (a : Address) (t : ℕ) → HasPermission t a (v i .permissions) → Allowed h (v i .allocation .«five_tuple») a t
   pub allowed← : (i : ℕ) → Live clock (v i) → (a : Address) (t : ℕ) → clock ≤ t → Allowed h (v i .allocation .«five_tuple») a t → HasPermission t a (v i .permissions)
+  pub known : (i : ℕ) → Live clock (v i) → (a : Address) → Known h (v i .allocation .«five_tuple») a (v i .permissions)
 
 -- of the relay's state
 abbrev pub AccountsFor : List Counted → State → Type 0
@@ -139,8 +149,9 @@ accounts-later clock now v h le I = record {
   given = λ i x. I .given i (omega arith);
   granted→ = λ i x t p. I .granted→ i (omega arith) t (omega arith);
   granted← = λ C t p. I .granted← C t (omega arith);
-  allowed→ = λ i x a t p. I .allowed→ i (omega arith) a t (omega arith);
+  allowed→ = λ i x. I .allowed→ i (omega arith);
   allowed← = λ i x a t p. I .allowed← i (omega arith) a t (omega arith);
+  known = λ i x. I .known i (omega arith);
 }
 
 -- a client has a lifetime that lasts just where it has a live slot
@@ -166,7 +177,7 @@ pub record Reach (v : View) (C : FiveTuple) (R : ℕ) (a : Address) (t : ℕ) : 
 pub reach→ : (clock : ℕ) (v : View) (h : List Counted) → Accounts clock v h → (C : FiveTuple) (R : ℕ) (a : Address) (t : ℕ) → clock ≤ t → Reach v C R a t → Given h C R × Granted h C t × Allowed h C a t
 reach→ clock v h I C R a t le r =
     let l : Live clock (v (r .i)) = omega arith in
-    rw (← r .who, ← r .port) (I .given (r .i) l, I .granted→ (r .i) l t le (r .live), I .allowed→ (r .i) l a t le (r .perm))
+    rw (← r .who, ← r .port) (I .given (r .i) l, I .granted→ (r .i) l t le (r .live), I .allowed→ (r .i) l a t (r .perm))
 
 pub reach← : (clock : ℕ) (v : View) (h : List Counted) → Accounts clock v h → (C : FiveTuple) (R : ℕ) (a : Address) (t : ℕ) → clock ≤ t → Given h C R → Granted h C t → Allowed h C a t → Reach v C R a t
 reach← clock v h I C R a t le g l p =

@@ -9,19 +9,20 @@ use lib.Dec.{ltb}
 use lib.ListN.{length, getD}
 use borrow.Author.Tests.{ltb-true, ltb-false, leb-true, eqb-true, eqb-false, le-ltb, lt-ltb, le-leb, not-true}
 use Rattle.choice.specs.Choice.{pick, both}
-use Rattle.choice.proofs.Laws.{both-parts, both-true}
+use Rattle.choice.proofs.Laws.{chosen, both-parts, both-true}
 use Rattle.address.specs.declared.Address.{Address}
 use Rattle.address.specs.declared.FiveTuple.{FiveTuple}
 use Rattle.address.specs.declared.TransportAddress.{TransportAddress}
 use Rattle.address.specs.Address.{sameAddress, sameTransportAddress, sameFiveTuple}
 use Rattle.address.proofs.Laws.{address-same, address-refl, transport-address-same, transport-address-refl, five-tuple-same, five-tuple-refl}
 use Rattle.slot.specs.declared.Permission.{Permission}
+use Rattle.slot.specs.declared.permissions.PermissionState.the-variants as PermissionState
 use Rattle.slot.specs.declared.Channel.{Channel}
 use Rattle.slot.specs.declared.Slot.{Slot}
 use Rattle.slot.specs.declared.Found.{Found}
 use Rattle.slot.specs.declared.Found.the-variants.{At, Nothing}
 use Rattle.slot.specs.Search.{further, find, has, orElse, entry}
-use Rattle.slot.specs.Slot.{liveAllocation, freshPermission, freshChannel, freshSlot, livePermission, freePermission, permits, isChannelNumber, liveChannel, numbered, leadsTo, holds, holdsPort}
+use Rattle.slot.specs.Slot.{liveAllocation, freshPermission, freshChannel, freshSlot, livePermission, freePermission, permits, entered, permissionState, isChannelNumber, liveChannel, numbered, leadsTo, holds, holdsPort}
 use Rattle.table.specs.Table.{slotAt, inSlot, lapsed}
 use Rattle.history.specs.Statement.{permissionAt, channelAt, Live, LiveChannel}
 use Rattle.history.proofs.Table.{HasPermission}
@@ -141,6 +142,23 @@ module _ (t : ℕ) where
   pub has-permission← : (a : Address) (l : List Permission) → has (find (permits t a) l) ≡ false → HasPermission t a l → ⊥
   has-permission← a l e p = none-permission a l (has-not _ e) (p .at) (p .live) (p .same)
 
+  pub permission? : (a : Address) (l : List Permission) → HasPermission t a l ⊎ (HasPermission t a l → ⊥)
+  permission? a l = go (has (find (permits t a) l)) refl
+    where
+      go : (b : Bool) → has (find (permits t a) l) ≡ b → HasPermission t a l ⊎ (HasPermission t a l → ⊥)
+      go true e = inl (has-permission→ a l e)
+      go false e = inr (has-permission← a l e)
+
+  -- what the permission lookup says
+  pub live-permission : (a : Address) (l : List Permission) → permissionState t a l ≡ PermissionState.Live → HasPermission t a l
+  unfolding permissionState
+  live-permission a l e = go (has (find (permits t a) l)) refl e
+    where
+      go : (b : Bool) → has (find (permits t a) l) ≡ b
+          → pick b PermissionState.Live (pick (has (find (entered a) l)) PermissionState.Lapsed PermissionState.Never) ≡ PermissionState.Live → HasPermission t a l
+      go true q e = has-permission→ a l q
+      go false q e = chosen (λ s. s ≡ PermissionState.Live → HasPermission t a l) (has (find (entered a) l)) (λ _ e. let z : _≡_ {A = ℕ} 0 1 = cc in absurd (omega arith)) (λ _ e. let z : _≡_ {A = ℕ} 0 1 = cc in absurd (omega arith)) e
+
   -- ---- Channels
   pub channel-is : (c : Channel) → liveChannel t c ≡ true → LiveChannel t c
   unfolding liveChannel isChannelNumber
@@ -171,3 +189,12 @@ module _ (t : ℕ) where
   none-leads p l e i x q =
       clash (sameTransportAddress (channelAt l i .peer) p) (rw (← q) (transport-address-refl (channelAt l i .peer)))
       (both-not _ _ (find-none (leadsTo t p) l freshChannel (rw fresh-channel) e i) (channel-of _ x))
+
+-- an entry with an expiry above 0 is one that was live at 0
+pub entered→ : (a : Address) (l : List Permission) → has (find (entered a) l) ≡ true → HasPermission 0 a l
+unfolding entered permits livePermission
+entered→ a l e = has-permission→ 0 a l e
+
+pub entered← : (a : Address) (l : List Permission) → has (find (entered a) l) ≡ false → HasPermission 0 a l → ⊥
+unfolding entered permits livePermission
+entered← a l e = has-permission← 0 a l e

@@ -1,32 +1,32 @@
 -- The history accounts for the relay's state after every list of calls; and whom a peer's datagram reaches.
 use Prim.Native.Nat.{ℕ, _≤_}
 use mathlib.Core.Path.{_≡_, refl, sym, _∙_, ap}
-use mathlib.Core.Logic.{_≢_, _↔_}
+use mathlib.Core.Logic.{_≢_, _⊎_, inl, inr, _↔_}
 use mathlib.Core.Bool.{Bool, true, false, not}
 use mathlib.Core.List.{List, [], _∷_}
-use native.Mathlib.Omega.{arith}
 use native.Mathlib.Nat.{le-refl, not-suc-le-zero}
 use lib.ListN.{length}
 use Rattle.wire.proofs.Laws.{all-same}
-use Rattle.choice.specs.Choice.{pick}
+use Rattle.choice.specs.Choice.{pick, any}
 use Rattle.address.specs.declared.Address.{Address}
 use Rattle.address.specs.declared.Address.the-variants.{V4, V6}
 use Rattle.address.specs.declared.FiveTuple.{FiveTuple}
 use Rattle.address.specs.declared.TransportAddress.{TransportAddress}
 use Rattle.address.specs.declared.TransactionId.{TransactionId}
 use Rattle.slot.specs.declared.Slot.{Slot}
+use Rattle.slot.specs.declared.permissions.PermissionState.the-variants as PermissionState
 use Rattle.slot.specs.declared.Found.{Found}
 use Rattle.slot.specs.declared.Found.the-variants.{At, Nothing}
 use Rattle.slot.specs.Search.{find, has, atOr}
-use Rattle.slot.specs.Slot.{freshSlot, permits, holdsPort}
+use Rattle.slot.specs.Slot.{freshSlot, permits, entered, permissionState, holdsPort}
 use Rattle.table.specs.Table.{slotAt, inSlot}
 use Rattle.rules.specs.declared.answer.Outcome.{Outcome}
-use Rattle.rules.specs.declared.answer.Outcome.the-variants.{Refused, Dropped, ToClient}
+use Rattle.rules.specs.declared.answer.Outcome.the-variants.{Refused, DroppedLapsed, DroppedNever, DroppedOther, ToClient}
 use Rattle.rules.specs.Change as rules
-use Rattle.rules.specs.Change.{Out, dropped, toClient, Change, keep, write}
+use Rattle.rules.specs.Change.{Cause, permissionLapsed, neverPermitted, otherCause, droppedFor, Out, toClient, Change, keep, write}
 use Rattle.decisions.specs.declared.client.Asked.{Asked}
 use Rattle.rules.specs.Values.{isIpv6}
-use Rattle.data_rules.specs.Data.{permitted, relayed, relayFromPeer}
+use Rattle.data_rules.specs.Data.{permissionOf, unlessDropped, relayed, peerCause, relayFromPeer}
 use Rattle.decisions.specs.Client.{askedBy}
 use Rattle.interface.specs.declared.incoming.Call.{Call}
 use Rattle.interface.specs.declared.incoming.Call.the-variants.{Client, Peer}
@@ -44,9 +44,10 @@ use Rattle.history.specs.Events.{CallFits, Arrival, met, acts, outcome, 
 use Rattle.history.specs.Statement.{Live, Apart, GoesTo, FromAddress}
 use Rattle.history.proofs.Readings.{given-holder, goes→, goes←}
 use Rattle.history.proofs.Table as table
-use Rattle.history.proofs.Table.{Accounts, AccountsFor, own-port, accounts-later, Reach, reach→, reach←}
+use Rattle.history.proofs.Table.{HasPermission, Accounts, AccountsFor, own-port, accounts-later, Reach, reach→, reach←}
 use Rattle.history.proofs.Keep.{keep as keep-accounts}
-use Rattle.history.proofs.Tests.{find-some, port-is, none-port, has-permission→, has-permission←}
+use Rattle.history.proofs.Replies.{dropped-not-sent}
+use Rattle.history.proofs.Tests.{find-some, port-is, none-port, has-permission→, has-permission←, entered→, entered←}
 use Rattle.history.proofs.Made.{quiet, made-asked}
 
 -- ---- The empty relay
@@ -64,6 +65,7 @@ accounts-empty = record {
   granted← = λ C t le g. absurd g;
   allowed→ = λ i x. absurd (none-live i x);
   allowed← = λ i x. absurd (none-live i x);
+  known = λ i x. absurd (none-live i x);
 }
 
 -- ---- One call
@@ -173,48 +175,55 @@ apart st past I t le =
 
 -- ---- Whom a peer's datagram reaches
 
--- it reaches the client whose live slot has the port and the permission, or nobody
-data Verdict (l : List Slot) (t R : ℕ) (a : Address) (o : Outcome) : Type 0 where
+-- it reaches the client whose live slot has the port and the permission; or that slot has no live one, and the cause is what its permissions say;
+-- or no live slot has the port
+pub data Verdict (l : List Slot) (t R : ℕ) (a : Address) (o : Outcome) : Type 0 where
   reaches : (C : FiveTuple) (n : ℕ) → o ≡ ToClient C n → Reach (slotAt l) C R a t → Verdict l t R a o
-  to-none : o ≡ Dropped → ((C : FiveTuple) → Reach (slotAt l) C R a t → ⊥) → Verdict l t R a o
+  shut : (k : ℕ) → Live t (slotAt l k) → slotAt l k .allocation .port ≡ R → (HasPermission t a (slotAt l k .permissions) → ⊥)
+      → ((o ≡ DroppedLapsed) × HasPermission 0 a (slotAt l k .permissions)) ⊎ ((o ≡ DroppedNever) × (HasPermission 0 a (slotAt l k .permissions) → ⊥))
+      → Verdict l t R a o
+  nobodys : o ≡ DroppedOther → ((i : ℕ) → Live t (slotAt l i) → slotAt l i .allocation .port ≢ R) → Verdict l t R a o
 
-module _ (l : List Slot) (t x p R : ℕ) (id : TransactionId) (s : List ℕ)
-    (one : (i j : ℕ) → Live t (slotAt l i) → Live t (slotAt l j) → slotAt l i .allocation .port ≡ slotAt l j .allocation .port → i ≡ j) where
+module _ (l : List Slot) (t x p R : ℕ) (id : TransactionId) (s : List ℕ) where
   abbrev call : FromPeer
   call = record { time = t; source = record { address = V4 x; port = p }; port = R; id = id }
 
   arrives : Verdict l t R (V4 x) (rules.outcomeOf (peer-out call l s))
-  unfolding peer-out relayFromPeer permitted atOr
+  unfolding peer-out relayFromPeer peerCause any permissionOf permissionState unlessDropped atOr
   arrives = go (find (inSlot (holdsPort t R)) l) refl
     where
       Sent : Slot → Out
       Sent slot = toClient (slot .allocation .«five_tuple») (relayed t (call .source) id s slot)
 
-      at : (k : ℕ) → find (inSlot (holdsPort t R)) l ≡ At k → (b : Bool) → has (find (permits t (V4 x)) (slotAt l k .permissions)) ≡ b
-          → Verdict l t R (V4 x) (rules.outcomeOf (pick (not b) dropped (Sent (slotAt l k))))
-      at k e true q =
+      at : (k : ℕ) → find (inSlot (holdsPort t R)) l ≡ At k → (b c : Bool) → has (find (permits t (V4 x)) (slotAt l k .permissions)) ≡ b
+          → has (find (entered (V4 x)) (slotAt l k .permissions)) ≡ c
+          → Verdict l t R (V4 x) (rules.outcomeOf (unlessDropped false (pick b PermissionState.Live (pick c PermissionState.Lapsed PermissionState.Never)) (Sent (slotAt l k))))
+      at k e b c q r =
           let f = port-is t R (slotAt l k) (find-some (inSlot (holdsPort t R)) l freshSlot k e .0) in
-          reaches _ _ refl (record { i = k; live = f .0; who = refl; port = f .1; perm = has-permission→ t (V4 x) _ q })
-      at k e false q =
-          let f = port-is t R (slotAt l k) (find-some (inSlot (holdsPort t R)) l freshSlot k e .0) in
-          to-none refl
-          (λ C r. let same : r .i ≡ k = one (r .i) k (r .live) (f .0) (r .port ∙ sym (f .1)) in has-permission← t (V4 x) _ q (rw same at (r .perm)))
+          by b c q r (f .0) (f .1)
+        where
+          by : (b c : Bool) → has (find (permits t (V4 x)) (slotAt l k .permissions)) ≡ b → has (find (entered (V4 x)) (slotAt l k .permissions)) ≡ c
+              → Live t (slotAt l k) → slotAt l k .allocation .port ≡ R
+              → Verdict l t R (V4 x) (rules.outcomeOf (unlessDropped false (pick b PermissionState.Live (pick c PermissionState.Lapsed PermissionState.Never)) (Sent (slotAt l k))))
+          by true c q r live port = reaches _ _ refl (record { i = k; live = live; who = refl; port = port; perm = has-permission→ t (V4 x) _ q })
+          by false true q r live port = shut k live port (has-permission← t (V4 x) _ q) (inl (refl, entered→ (V4 x) _ r))
+          by false false q r live port = shut k live port (has-permission← t (V4 x) _ q) (inr (refl, entered← (V4 x) _ r))
 
       go : (f : Found) → find (inSlot (holdsPort t R)) l ≡ f
-          → Verdict l t R (V4 x) (rules.outcomeOf (pick (not (has f)) dropped (pick (not (has (find (permits t (V4 x)) (atOr freshSlot f l .permissions)))) dropped (Sent (atOr freshSlot f l)))))
-      go Nothing e = to-none refl (λ C r. none-port t R l e (r .i) (r .live) (r .port))
-      go (At k) e = at k e (has (find (permits t (V4 x)) (slotAt l k .permissions))) refl
+          → Verdict l t R (V4 x) (rules.outcomeOf (unlessDropped (pick (not (has f)) true false) (permissionState t (V4 x) (atOr freshSlot f l .permissions)) (Sent (atOr freshSlot f l))))
+      go Nothing e = nobodys refl (none-port t R l e)
+      go (At k) e = at k e (has (find (permits t (V4 x)) (slotAt l k .permissions))) (has (find (entered (V4 x)) (slotAt l k .permissions))) refl refl
 
 -- in a call that is not refused
 module _ (st : State) (past : List Counted) (I : AccountsFor past st) (a : Arrival) (R x t : ℕ) (from : FromAddress a R (V4 x) t)
     (nr : (number : ℕ) → outcome st a ≢ Refused number) where
-  reached : (clockOf st ≤ t) × Verdict (st .slots) t R (V4 x) (outcome st a)
+  pub reached : (clockOf st ≤ t) × Verdict (st .slots) t R (V4 x) (outcome st a)
   reached =
       rw (from .2)
       (acted (λ (it : Act). ((n : ℕ) → outcomeOf it ≢ Refused n) → (clockOf st ≤ t) × Verdict (st .slots) t R (V4 x) (outcomeOf it)) (met st a) c (a .datagram) (length (a .reply))
       (λ number none. absurd (none number refl))
       (λ e none. let le : clockOf st ≤ t = not-refused (clockOf st) (st .slots) (a .datagram) (a .reply) c e .not-before in
-      (le, rw (peer-stays _ (met st a) (a .datagram)) (arrives (st .slots) t x (from .0) R (from .1) (a .datagram) (apart st past I t le .ports))))
+      (le, rw (peer-stays _ (met st a) (a .datagram)) (arrives (st .slots) t x (from .0) R (from .1) (a .datagram))))
       (rw (from .2) at nr))
     where
       c : Call
@@ -230,6 +239,21 @@ module _ (st : State) (past : List Counted) (I : AccountsFor past st) (a : Arriv
   one-holder : (C D : FiveTuple) → GoesTo past C R (V4 x) t → GoesTo past D R (V4 x) t → C ≡ D
   one-holder C D u v = given-holder past C D R (goes→ past C R (V4 x) t u .0) (goes→ past D R (V4 x) t v .0)
 
+  -- the slot with the port has no live permission, so the datagram goes to nobody
+  none-reached : clockOf st ≤ t → (k : ℕ) → Live t (slotAt (st .slots) k) → slotAt (st .slots) k .allocation .port ≡ R
+      → (HasPermission t (V4 x) (slotAt (st .slots) k .permissions) → ⊥) → (C : FiveTuple) → GoesTo past C R (V4 x) t → ⊥
+  none-reached le k live port none C g =
+      let r = says C le .1 g in
+      let same : r .i ≡ k = apart st past I t le .ports (r .i) k (r .live) live (r .port ∙ sym port) in
+      none (rw same at (r .perm))
+
+  why-dropped : {o : Outcome} {P Q : Type 0} → ((o ≡ DroppedLapsed) × P) ⊎ ((o ≡ DroppedNever) × Q) → (cause : Cause) × (o ≡ droppedFor cause)
+  why-dropped (inl y) = (permissionLapsed, y .0)
+  why-dropped (inr y) = (neverPermitted, y .0)
+
+  pub differ : {A : Type 0} {o : Outcome} {C : FiveTuple} {n : ℕ} → (cause : Cause) × (o ≡ droppedFor cause) → o ≡ ToClient C n → A
+  differ d q = dropped-not-sent (d .0) (sym (d .1) ∙ q)
+
   -- it goes to C exactly when the history says so
   pub delivery : (C : FiveTuple) → ((n : ℕ) × (outcome st a ≡ ToClient C n)) ↔ GoesTo past C R (V4 x) t
   delivery C = go (reached .0) (reached .1)
@@ -244,31 +268,30 @@ module _ (st : State) (past : List Counted) (I : AccountsFor past st) (a : Arriv
         where
           same : (X Y : FiveTuple) (m k : ℕ) → ToClient X m ≡ ToClient Y k → X ≡ Y
           same X Y m k q = cc
-      go le (to-none e f) = (λ u. differ (u .0) (sym e ∙ u .1), λ g. absurd (f C (says C le .1 g)))
-        where
-          differ : {A : Type 0} (n : ℕ) → Dropped ≡ ToClient C n → A
-          differ n q = let z : _≡_ {A = ℕ} 0 1 = cc in let y : ⊥ = omega arith in absurd y
+      go le (shut k live port none why) = (λ u. differ (why-dropped why) (u .1), λ g. absurd (none-reached le k live port none C g))
+      go le (nobodys e none) = (λ u. differ (otherCause, e) (u .1), λ g. let r = says C le .1 g in absurd (none (r .i) (r .live) (r .port)))
 
   -- otherwise to nobody
-  pub nobody : ((C : FiveTuple) → GoesTo past C R (V4 x) t → ⊥) → outcome st a ≡ Dropped
+  pub nobody : ((C : FiveTuple) → GoesTo past C R (V4 x) t → ⊥) → (cause : Cause) × (outcome st a ≡ droppedFor cause)
   nobody none = go (reached .0) (reached .1)
     where
-      go : clockOf st ≤ t → Verdict (st .slots) t R (V4 x) (outcome st a) → outcome st a ≡ Dropped
+      go : clockOf st ≤ t → Verdict (st .slots) t R (V4 x) (outcome st a) → (cause : Cause) × (outcome st a ≡ droppedFor cause)
       go le (reaches C n e r) = absurd (none C (says C le .0 r))
-      go le (to-none e f) = e
+      go le (shut k live port closed why) = why-dropped why
+      go le (nobodys e none) = (otherCause, e)
 
 -- ---- 'IPv6 ..: dropped'
 ipv6-out : (t : ℕ) (source : TransportAddress) (id : TransactionId) (s : List ℕ) (own : Bool) (slot : Slot) → isIpv6 (source .address) ≡ true
-    → rules.outcomeOf (relayFromPeer t source id s own slot) ≡ Dropped
-unfolding relayFromPeer
+    → rules.outcomeOf (relayFromPeer t source id s own slot) ≡ DroppedOther
+unfolding relayFromPeer peerCause any unlessDropped
 ipv6-out t source id s true slot e = rw e
 ipv6-out t source id s false slot e = refl
 
-pub ipv6-dropped : (st : State) (a : Arrival) (R p q r w t : ℕ) → FromAddress a R (V6 p q r w) t → ((number : ℕ) → outcome st a ≢ Refused number) → outcome st a ≡ Dropped
+pub ipv6-dropped : (st : State) (a : Arrival) (R p q r w t : ℕ) → FromAddress a R (V6 p q r w) t → ((number : ℕ) → outcome st a ≢ Refused number) → outcome st a ≡ DroppedOther
 unfolding peer-out
 ipv6-dropped st a R p q r w t from nr =
     rw (from .2)
-    (acted (λ (it : Act). ((n : ℕ) → outcomeOf it ≢ Refused n) → outcomeOf it ≡ Dropped) (met st a) (Peer call) (a .datagram) (length (a .reply)) (λ number none. absurd (none number refl))
+    (acted (λ (it : Act). ((n : ℕ) → outcomeOf it ≢ Refused n) → outcomeOf it ≡ DroppedOther) (met st a) (Peer call) (a .datagram) (length (a .reply)) (λ number none. absurd (none number refl))
     (λ e none. rw (peer-stays call (met st a) (a .datagram)) (ipv6-out t (call .source) (from .1) (a .datagram) (has found) (atOr freshSlot found (st .slots)) refl)) (rw (from .2) at nr))
   where
     call : FromPeer

@@ -13,15 +13,15 @@ use Rattle.stun.specs.Message.{sorted, nextAt, stepAt, walkF, walk, wellFormed,
 use Rattle.stun.specs.Values.{transactionId, v4At, addressAt, peersOf, peersFrom, firstPeer, numberValue}
 use Rattle.messages.specs.Messages.{messageBytes, allocateSuccess, refreshSuccess, bareSuccess, dataIndication, channelData}
 use Rattle.slot.specs.Search.{find, entry, putAt, atOr}
-use Rattle.slot.specs.Slot.{liveAllocation, livePermission, freshSlot, isChannelNumber, liveChannel, holds, holdsUser, holdsPort, permits, freePermission, permissionEntry, permit, numbered, leadsTo, numberTaken, peerTaken, freeChannel, channelEntry, bind}
+use Rattle.slot.specs.Slot.{liveAllocation, livePermission, freshSlot, isChannelNumber, liveChannel, holds, holdsUser, holdsPort, permits, entered, permissionState, freePermission, permissionEntry, permit, numbered, leadsTo, numberTaken, peerTaken, freeChannel, channelEntry, bind}
 use Rattle.table.specs.Table.{count}
-use Rattle.rules.specs.declared.answer.Outcome.the-variants.{Dropped, ToClient}
+use Rattle.rules.specs.declared.answer.Outcome.the-variants.{DroppedLapsed, DroppedNever, DroppedOther, ToClient}
 use Rattle.rules.specs.Change.{check, respond}
 use Rattle.rules.specs.Values.{anyUnknown, malformedPeer, ipv6Peer}
 use Rattle.rules.specs.Requests.{requestCode, ownCode}
 use Rattle.allocation_rules.specs.Allocations.{repeats, allocateCode, allocated, allocate, refreshCode, renewed, refreshed, refresh, firstFree, portFor}
 use Rattle.permission_rules.specs.Permissions.{permitPeer, permitAll, createPermissionCode, createPermission, bound, channelBindCode, channelBind}
-use Rattle.data_rules.specs.Data.{permitted, relayed, relayFromPeer}
+use Rattle.data_rules.specs.Data.{permissionOf, unlessDropped, relayed, peerCause, relayFromPeer}
 use Rattle.decisions.specs.Client.{askedBy}
 use Rattle.interface.specs.declared.incoming.Call.{Call}
 use Rattle.denied.specs.Tree.{deniedBelow, denied, noneDenied}
@@ -91,20 +91,24 @@ pub record Witnesses : Type 0 where
   -- the Allocate's lifetime is over at 1600, the Refresh's at 2100
   pub by-refresh : Shows (allocating ∷ refreshing ∷ permitting ∷ [])
       (allowed caller (V4 0xc000_0296 ∷ []) 2200 ∷ kept caller 1500 600 ∷ gave caller 49157 1000 600 ∷ []) (coming 2099 (lit< tt)) caller 40
-  pub refresh-over : outcome (run empty (allocating ∷ refreshing ∷ permitting ∷ [])) (coming 2100 (lit< tt)) ≡ Dropped
+  pub refresh-over : outcome (run empty (allocating ∷ refreshing ∷ permitting ∷ [])) (coming 2100 (lit< tt)) ≡ DroppedOther
   -- a ChannelBind is a permission too, and what comes is ChannelData
   pub by-channel : Shows (allocating ∷ binding ∷ []) (allowed caller (V4 0xc000_0296 ∷ []) 1310 ∷ gave caller 49157 1000 600 ∷ []) (coming 1309 (lit< tt)) caller 6
-  pub channel-over : outcome (run empty (allocating ∷ binding ∷ [])) (coming 1310 (lit< tt)) ≡ Dropped
+  -- it lives longer than its permission, whose end is the cause
+  pub channel-over : outcome (run empty (allocating ∷ binding ∷ [])) (coming 1310 (lit< tt)) ≡ DroppedLapsed
+  -- nothing was asked for the peer
+  pub never-asked : outcome (run empty (allocating ∷ [])) (coming 1310 (lit< tt)) ≡ DroppedNever
   -- the port of a lapsed allocation, given to another client
   pub port-again : Shows (allocating ∷ other-allocating ∷ other-permitting ∷ [])
       (allowed other (V4 0xc000_0296 ∷ []) 1910 ∷ gave other 49157 1600 600 ∷ gave caller 49157 1000 600 ∷ []) (coming 1700 (lit< tt)) other 40
 
 pub witnesses : Witnesses
-unfolding act refusal askedBy sorted wellFormed walk walkF stepAt nextAt num decided allocate respond repeats allocateCode requestCode check anyUnknown unknownTypes unknownNumbers attributesFrom isIntegrity isUnknown attributeKindOf find holds holdsUser holdsPort liveAllocation both sameFiveTuple sameTransportAddress sameAddress freshSlot numberValue firstOf count portFor firstFree portsHeld allocated allocateSuccess bytesOf transactionId accepted refreshCode renewed refreshed refresh refreshSuccess createPermission createPermissionCode ownCode permitAll permitPeer permit permissionEntry entry putAt permits freePermission livePermission any malformedPeer ipv6Peer peersFrom peersOf firstPeer addressAt v4At bareSuccess messageBytes bound channelBindCode channelBind numbered numberTaken peerTaken freeChannel channelEntry bind relayFromPeer permitted relayed leadsTo liveChannel isChannelNumber atOr dataIndication channelData messageIn checked fieldsOf sameBytes allocateFields refreshFields bareFields granted denied deniedBelow
+unfolding act refusal askedBy sorted wellFormed walk walkF stepAt nextAt num decided allocate respond repeats allocateCode requestCode check anyUnknown unknownTypes unknownNumbers attributesFrom isIntegrity isUnknown attributeKindOf find holds holdsUser holdsPort liveAllocation both sameFiveTuple sameTransportAddress sameAddress freshSlot numberValue firstOf count portFor firstFree portsHeld allocated allocateSuccess bytesOf transactionId accepted refreshCode renewed refreshed refresh refreshSuccess createPermission createPermissionCode ownCode permitAll permitPeer permit permissionEntry entry putAt permits freePermission livePermission any malformedPeer ipv6Peer peersFrom peersOf firstPeer addressAt v4At bareSuccess messageBytes bound channelBindCode channelBind numbered numberTaken peerTaken freeChannel channelEntry bind relayFromPeer peerCause unlessDropped permissionOf permissionState entered relayed leadsTo liveChannel isChannelNumber atOr dataIndication channelData messageIn checked fieldsOf sameBytes allocateFields refreshFields bareFields granted denied deniedBelow
 witnesses = record {
   by-refresh = record { counts-as = refl; goes = refl };
   refresh-over = refl;
   by-channel = record { counts-as = refl; goes = refl };
   channel-over = refl;
+  never-asked = refl;
   port-again = record { counts-as = refl; goes = refl };
 }

@@ -15,7 +15,7 @@ use Rattle.stun.specs.declared.values.AddressValue.{AddressValue}
 use Rattle.stun.specs.Kinds.{requestType}
 use Rattle.stun.specs.Values.{peers, firstPeer}
 use Rattle.rules.specs.declared.answer.Outcome.{Outcome}
-use Rattle.rules.specs.declared.answer.Outcome.the-variants.{Refused, Dropped, ToClient, ToPeer}
+use Rattle.rules.specs.declared.answer.Outcome.the-variants.{Refused, DroppedLapsed, DroppedNever, DroppedOther, ToClient, ToPeer}
 use Rattle.interface.specs.declared.incoming.Call.{Call}
 use Rattle.interface.specs.declared.incoming.Call.the-variants.{Client, Peer}
 use Rattle.interface.specs.declared.incoming.FromClient.{FromClient}
@@ -106,7 +106,9 @@ countsAs call s Nothing = nothing
 -- 'accepted is one whose outcome is a success response', read off the reply's bytes by the clients' reader
 abbrev pub countsBy : Call → List ℕ → Outcome → List ℕ → Counted
 countsBy (Client call) s (Refused number) reply = nothing
-countsBy (Client call) s Dropped reply = nothing
+countsBy (Client call) s DroppedLapsed reply = nothing
+countsBy (Client call) s DroppedNever reply = nothing
+countsBy (Client call) s DroppedOther reply = nothing
 countsBy (Client call) s (ToClient fiveTuple n) reply = countsAs call s (messageIn (take n reply) .message)
 countsBy (Client call) s (ToPeer port peer start len) reply = nothing
 countsBy (Peer call) s outcome reply = nothing

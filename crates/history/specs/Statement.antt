@@ -13,7 +13,8 @@ use Rattle.slot.specs.declared.Channel.{Channel}
 use Rattle.slot.specs.Slot.{freshPermission, freshChannel}
 use lib.ListN.{getD}
 use Rattle.table.specs.Table.{slotAt}
-use Rattle.rules.specs.declared.answer.Outcome.the-variants.{Refused, Dropped, ToClient}
+use Rattle.rules.specs.declared.answer.Outcome.the-variants.{Refused, ToClient}
+use Rattle.rules.specs.Change.{Cause, droppedFor}
 use Rattle.interface.specs.declared.incoming.Call.the-variants.{Peer}
 use Rattle.history.specs.Counted.{Counted, gave, kept, allowed}
 use Rattle.state.specs.State.{State, empty, clockOf}
@@ -71,16 +72,20 @@ pub record FromRefresh (C : FiveTuple) (t : ℕ) (since : List Counted) : Type 0
   pub last : (s n : ℕ) → List·Memᴰ (kept C s n) newer → ⊥
   pub lasts : Lasts t s n
 
--- 'C had a CreatePermission or ChannelBind accepted for that peer's IP address at some s with t < s + 300'
-pub record Permitted (C : FiveTuple) (a : Address) (t : ℕ) (since : List Counted) : Type 0 where
+-- 'C had a CreatePermission or ChannelBind accepted for that peer's IP address ..
+pub record Had (C : FiveTuple) (a : Address) (since : List Counted) : Type 0 where
   pub addresses : List Address
   pub ends : ℕ
   pub accepted : List·Memᴰ (allowed C addresses ends) since
   pub named : List·Memᴰ a addresses
-  pub recent : t < ends
 
--- what was counted says of a datagram from address a, at port R, at time t, that it goes to C
-pub record GoesTo (past : List Counted) (C : FiveTuple) (R : ℕ) (a : Address) (t : ℕ) : Type 0 where
+-- .. at some s with t < s + 300'
+pub record Permitted (C : FiveTuple) (a : Address) (t : ℕ) (since : List Counted) : Type 0 where
+  pub request : Had C a since
+  pub recent : t < request .ends
+
+-- what was counted says that at time t port R is that of C's live allocation
+pub record HoldsPort (past : List Counted) (C : FiveTuple) (R t : ℕ) : Type 0 where
   pub since : List Counted
   pub before : List Counted
   pub s : ℕ
@@ -91,8 +96,12 @@ pub record GoesTo (past : List Counted) (C : FiveTuple) (R : ℕ) (a : Address) 
   pub alone : (D : FiveTuple) (s n : ℕ) → List·Memᴰ (gave D R s n) since → ⊥
   -- 'the last lifetime granted to C, by that Allocate or an accepted Refresh after it, is not zero and not over at t'
   pub lifetime : FromAllocate C t s n since ⊎ FromRefresh C t since
+
+-- what was counted says of a datagram from address a, at port R, at time t, that it goes to C
+pub record GoesTo (past : List Counted) (C : FiveTuple) (R : ℕ) (a : Address) (t : ℕ) : Type 0 where
+  pub holder : HoldsPort past C R t
   -- 'since that Allocate'
-  pub permission : Permitted C a t since
+  pub permission : Permitted C a t (holder .since)
 
 -- ---- The demand
 
@@ -112,6 +121,10 @@ pub record Comes (list before : List Event) (e : Event) (R : ℕ) (a : Address) 
 abbrev pub To : FiveTuple → Event → Type 0
 To C e = (n : ℕ) × (e .outcome ≡ ToClient C n)
 
+-- 'dropped', for whatever cause
+abbrev pub IsDropped : Event → Type 0
+IsDropped e = (cause : Cause) × (e .outcome ≡ droppedFor cause)
+
 -- 'one claim about the whole list': from a state on, where `past` was counted before
 pub record Demand3From (first : State) (past : List Counted) (list : List Event) : Type 0 where
   -- 'Every moment: before the first call and after each, at the stored clock and any later time'
@@ -120,7 +133,7 @@ pub record Demand3From (first : State) (past : List Counted) (list : List Event)
   pub goes-to : (before : List Event) (e : Event) (R x t : ℕ) → Comes list before e R (V4 x) t → (C : FiveTuple) → To C e ↔ GoesTo (counted past before) C R (V4 x) t
   -- 'to nobody: dropped'
   pub to-nobody : (before : List Event) (e : Event) (R x t : ℕ) → Comes list before e R (V4 x) t
-      → ((C : FiveTuple) → GoesTo (counted past before) C R (V4 x) t → ⊥) → e .outcome ≡ Dropped
+      → ((C : FiveTuple) → GoesTo (counted past before) C R (V4 x) t → ⊥) → IsDropped e
 
 -- 'An empty relay is a fresh one.'
 abbrev pub Demand3 : List Event → Type 0

@@ -9,7 +9,9 @@ pub fn what_to_send<'a>(outcome: Outcome, datagram: &'a [u8], reply: &'a [u8]) -
 {
     match outcome {
         Outcome::Refused(_) => &reply[..0],
-        Outcome::Dropped => &reply[..0],
+        Outcome::DroppedLapsed => &reply[..0],
+        Outcome::DroppedNever => &reply[..0],
+        Outcome::DroppedOther => &reply[..0],
         Outcome::ToClient { five_tuple: _, len } => part(reply, 0, len),
         Outcome::ToPeer {
             port: _,

@@ -13,11 +13,22 @@ use Rattle.stun.specs.Values.{transactionId}
 use Rattle.messages.specs.Messages.{errorResponse, unknownResponse}
 use Rattle.slot.specs.declared.Slot.{Slot}
 use Rattle.rules.specs.declared.answer.Outcome.{Outcome}
-use Rattle.rules.specs.declared.answer.Outcome.the-variants.{Dropped, ToClient, ToPeer}
+use Rattle.rules.specs.declared.answer.Outcome.the-variants.{DroppedLapsed, DroppedNever, DroppedOther, ToClient, ToPeer}
 
--- what goes out: nothing; a message's bytes to the client of a 5-tuple; a part of the datagram from a relay port to a peer
+-- request 3: why nothing goes out: a permission is missing and nothing else, and it has lapsed or there never was one; or another cause
+pub data Cause : Type 0 where
+  permissionLapsed : Cause
+  neverPermitted : Cause
+  otherCause : Cause
+
+abbrev pub droppedFor : Cause → Outcome
+droppedFor permissionLapsed = DroppedLapsed
+droppedFor neverPermitted = DroppedNever
+droppedFor otherCause = DroppedOther
+
+-- what goes out: nothing, and why; a message's bytes to the client of a 5-tuple; a part of the datagram from a relay port to a peer
 pub data Out : Type 0 where
-  dropped : Out
+  dropped : Cause → Out
   toClient : FiveTuple → List ℕ → Out
   toPeer : (port : ℕ) → TransportAddress → (start len : ℕ) → Out
 
@@ -30,15 +41,15 @@ abbrev pub outOf : Change → Out
 outOf (keep out) = out
 outOf (write slot out) = out
 
--- the table of outcomes: 'Dropped', 'To the client: 5-tuple, n bytes', 'To a peer: relay port, peer, place of payload'
+-- the table of outcomes: 'Dropped', which by request 3 carries its cause, 'To the client: 5-tuple, n bytes', 'To a peer: relay port, peer, place of payload'
 abbrev pub outcomeOf : Out → Outcome
-outcomeOf dropped = Dropped
+outcomeOf (dropped cause) = droppedFor cause
 outcomeOf (toClient fiveTuple message) = ToClient fiveTuple (length message)
 outcomeOf (toPeer port peer start len) = ToPeer port peer start len
 
 -- its column 'Reply buffer': 'first n written, rest unchanged', else 'unchanged'
 abbrev pub replyAfter : List ℕ → Out → List ℕ
-replyAfter reply dropped = reply
+replyAfter reply (dropped cause) = reply
 replyAfter reply (toClient fiveTuple message) = message ++ drop (length message) reply
 replyAfter reply (toPeer port peer start len) = reply
 

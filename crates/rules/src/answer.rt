@@ -15,7 +15,10 @@ ghost use Rattle.rules.specs.Inner.{Answers};
 
 pub enum Outcome {
     Refused(u8),
-    Dropped,
+    // A drop has one of three causes: a missing permission alone, which has lapsed or never was; or another.
+    DroppedLapsed,
+    DroppedNever,
+    DroppedOther,
     // The first len bytes of the reply go to the client of the 5-tuple.
     ToClient {
         five_tuple: FiveTuple,

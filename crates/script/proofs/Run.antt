@@ -10,7 +10,7 @@ use borrow.Author.Tests.{le-leb, lt-leb}
 use Rattle.choice.specs.Choice.{pick, both}
 use Rattle.wire.specs.Wire.{partOf}
 use Rattle.rules.specs.declared.answer.Outcome.{Outcome}
-use Rattle.rules.specs.declared.answer.Outcome.the-variants.{Refused, Dropped, ToClient, ToPeer}
+use Rattle.rules.specs.declared.answer.Outcome.the-variants.{Refused, DroppedLapsed, DroppedNever, DroppedOther, ToClient, ToPeer}
 use Rattle.messages.specs.Inner.{Sent}
 use Rattle.interface.specs.declared.incoming.Call.{Call}
 use Rattle.state.specs.State.{State}
@@ -28,13 +28,17 @@ use Rattle.script.specs.Run.{shown, answerTo, stateTo, lineIn, Runs}
 
 pub sent-to-peer : (outcome : Outcome) (datagram reply : List ℕ) → isToPeer outcome ≡ true → sent outcome datagram datagram ≡ sent outcome datagram reply
 sent-to-peer (Refused number) datagram reply e = refl
-sent-to-peer Dropped datagram reply e = refl
+sent-to-peer DroppedLapsed datagram reply e = refl
+sent-to-peer DroppedNever datagram reply e = refl
+sent-to-peer DroppedOther datagram reply e = refl
 sent-to-peer (ToClient fiveTuple len) datagram reply e = absurd (false≢true e)
 sent-to-peer (ToPeer port peer start len) datagram reply e = refl
 
 pub sent-else : (outcome : Outcome) (datagram reply : List ℕ) → isToPeer outcome ≡ false → sent outcome reply reply ≡ sent outcome datagram reply
 sent-else (Refused number) datagram reply e = refl
-sent-else Dropped datagram reply e = refl
+sent-else DroppedLapsed datagram reply e = refl
+sent-else DroppedNever datagram reply e = refl
+sent-else DroppedOther datagram reply e = refl
 sent-else (ToClient fiveTuple len) datagram reply e = refl
 sent-else (ToPeer port peer start len) datagram reply e = absurd (false≢true (sym e))
 
@@ -51,7 +55,9 @@ take-short (suc k) (x ∷ l) {n = suc n} h = let r = take-short k l {n = n} (ome
 pub sent-short : (outcome : Outcome) (l : List ℕ) {n : ℕ} → length l ≤ n → length (sent outcome l l) ≤ n
 unfolding partOf
 sent-short (Refused number) l h = omega arith
-sent-short Dropped l h = omega arith
+sent-short DroppedLapsed l h = omega arith
+sent-short DroppedNever l h = omega arith
+sent-short DroppedOther l h = omega arith
 sent-short (ToClient fiveTuple len) l h = picked-short (leb len (length l)) (take len l) (take-short len l h)
 sent-short (ToPeer port peer start len) l h = picked-short (leb (start + len) (length l)) (take len (drop start l)) (take-short len (drop start l) (omega (arith, h, length-drop start l)))
 

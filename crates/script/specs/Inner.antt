@@ -6,7 +6,7 @@ use mathlib.Core.List.{List}
 use lib.ListN.{length}
 use Rattle.messages.specs.Inner.{Sent}
 use Rattle.rules.specs.declared.answer.Outcome.{Outcome}
-use Rattle.rules.specs.declared.answer.Outcome.the-variants.{Refused, Dropped, ToClient, ToPeer}
+use Rattle.rules.specs.declared.answer.Outcome.the-variants.{Refused, DroppedLapsed, DroppedNever, DroppedOther, ToClient, ToPeer}
 use Rattle.interface.specs.declared.incoming.Call.{Call}
 use Rattle.state.specs.State.{State}
 use Rattle.state.specs.Outcomes.{replyAfter, stateAfter}
@@ -17,7 +17,9 @@ use Rattle.script.specs.Run.{shown}
 
 abbrev pub isToPeer : Outcome → Bool
 isToPeer (Refused number) = false
-isToPeer Dropped = false
+isToPeer DroppedLapsed = false
+isToPeer DroppedNever = false
+isToPeer DroppedOther = false
 isToPeer (ToClient fiveTuple len) = false
 isToPeer (ToPeer port peer start len) = true
 

@@ -5,6 +5,7 @@ use address::TransportAddress;
 use rules::answer::Outcome;
 use text::put_decimal;
 use text::put_hex_bytes;
+use wire::put_bytes;
 ghost use mathlib.Core.List.{[], _∷_, _++_};
 ghost use Prim.Native.Nat.{_≤_};
 ghost use lib.ListN.{length};
@@ -77,6 +78,15 @@ fn put_to_peer(out: &mut [u8], port: u16, peer: TransportAddress, sent: &[u8]) -
     peer_at + put_sent(&mut out[peer_at..], peer, sent)
 }
 
+// These bytes as they stand.
+fn put_text(out: &mut [u8], text: &[u8]) -> usize
+    requires { ⌜ length (now text) ≤ length (now out) ⌝ }
+    ensures { λ r. ⌜ Sent (now (text .entry)) (now (out .entry)) (now (out .exit)) r ⌝ }
+{
+    put_bytes(out, text);
+    text.len()
+}
+
 // The line of an outcome that sends these bytes; how many bytes it has.
 pub(crate) fn put_answer(output: &mut [u8], outcome: Outcome, sent: &[u8]) -> usize
     requires { ⌜ (length (now sent) ≤ 1600) × (4096 ≤ length (now output)) ⌝ }
@@ -87,10 +97,9 @@ pub(crate) fn put_answer(output: &mut [u8], outcome: Outcome, sent: &[u8]) -> us
             put_letter(output, 82, TAB);
             2 + put_number(&mut output[2..], number as u64, NEWLINE)
         }
-        Outcome::Dropped => {
-            put_letter(output, 68, NEWLINE);
-            2
-        }
+        Outcome::DroppedLapsed => put_text(output, b"D\tlapsed\n"),
+        Outcome::DroppedNever => put_text(output, b"D\tnever\n"),
+        Outcome::DroppedOther => put_text(output, b"D\tother\n"),
         Outcome::ToClient { five_tuple, len: _ } => {
             let client = five_tuple.client;
             put_letter(output, 83, TAB);

@@ -54,7 +54,9 @@ fn is_to_peer(outcome: Outcome) -> bool
 {
     match outcome {
         Outcome::Refused(_) => false,
-        Outcome::Dropped => false,
+        Outcome::DroppedLapsed => false,
+        Outcome::DroppedNever => false,
+        Outcome::DroppedOther => false,
         Outcome::ToClient {
             five_tuple: _,
             len: _,

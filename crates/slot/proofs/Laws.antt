@@ -1,4 +1,4 @@
--- The laws of the searches: what a loop over a list shows where it starts, goes on and ends, and an index past the end.
+-- The laws of the searches: what a loop over a list shows where it starts, goes on and ends, and an index past the end; and of the permission lookup.
 use Prim.Native.Nat.{ℕ, zero, suc, _+_, _<_, _≤_, suc-le-suc}
 use mathlib.Core.Path.{_≡_, refl, sym, _∙_}
 use mathlib.Core.Bool.{Bool, true, false}
@@ -8,9 +8,13 @@ use native.Mathlib.Omega.{arith}
 use borrow.Author.Count.{below-more}
 use lib.ListN.{length, getD, List·getD-eq-default}
 use lib.Seq.{set-out}
+use Rattle.address.specs.declared.Address.{Address}
+use Rattle.slot.specs.declared.Permission.{Permission}
+use Rattle.slot.specs.declared.permissions.PermissionState.the-variants.{Live, Lapsed, Never}
 use Rattle.slot.specs.declared.Found.{Found}
 use Rattle.slot.specs.declared.Found.the-variants.{At, Nothing}
-use Rattle.slot.specs.Search.{find, putAt, atOr}
+use Rattle.slot.specs.Search.{find, has, putAt, atOr}
+use Rattle.slot.specs.Slot.{livePermission, permits, entered, permissionState}
 
 module _ {A : Type 0} where
   -- no entry below i passes: what a search's loop keeps
@@ -54,3 +58,19 @@ module _ {A : Type 0} where
   pub at-past : (d : A) (l : List A) {o : Found} {i : ℕ} → o ≡ At i → length l ≤ i → d ≡ atOr d o l
   unfolding atOr
   at-past d l {o} {i} e h = rw e (sym (List·getD-eq-default l d {n = i} h))
+
+-- ---- The permission lookup. An entry with an expiry above 0 is one that is live at 0
+module _ (time : ℕ) (address : Address) (permissions : List Permission) where
+  pub state-live : has (find (permits time address) permissions) ≡ true → permissionState time address permissions ≡ Live
+  unfolding permissionState
+  state-live e = rw e
+
+  pub state-lapsed : has (find (permits time address) permissions) ≡ false → has (find (permits 0 address) permissions) ≡ true
+      → permissionState time address permissions ≡ Lapsed
+  unfolding permissionState entered permits livePermission
+  state-lapsed e f = rw (e, f)
+
+  pub state-never : has (find (permits time address) permissions) ≡ false → has (find (permits 0 address) permissions) ≡ false
+      → permissionState time address permissions ≡ Never
+  unfolding permissionState entered permits livePermission
+  state-never e f = rw (e, f)

@@ -4,7 +4,7 @@ use mathlib.Core.Bool.{Bool, not}
 use mathlib.Core.List.{List}
 use lib.Dec.{eqb, ltb, leb}
 use lib.ListN.{replicate}
-use Rattle.choice.specs.Choice.{both}
+use Rattle.choice.specs.Choice.{pick, both}
 use Rattle.address.specs.declared.Address.{Address}
 use Rattle.address.specs.declared.Address.the-variants.{V4}
 use Rattle.address.specs.declared.TransportAddress.{TransportAddress}
@@ -12,6 +12,8 @@ use Rattle.address.specs.declared.FiveTuple.{FiveTuple}
 use Rattle.address.specs.declared.TransactionId.{TransactionId}
 use Rattle.address.specs.Address.{sameAddress, sameTransportAddress, sameFiveTuple}
 use Rattle.slot.specs.declared.Permission.{Permission}
+use Rattle.slot.specs.declared.permissions.PermissionState.{PermissionState}
+use Rattle.slot.specs.declared.permissions.PermissionState.the-variants.{Live, Lapsed, Never}
 use Rattle.slot.specs.declared.Channel.{Channel}
 use Rattle.slot.specs.declared.Allocation.{Allocation}
 use Rattle.slot.specs.declared.Slot.{Slot}
@@ -90,6 +92,15 @@ holdsPort time port allocation = both (liveAllocation time allocation) (eqb (all
 -- CreatePermission: 'a live permission for the IP address (ports ignored)', as in Send's 'no live permission for the peer's IP address'
 unfoldable pub permits : ℕ → Address → Permission → Bool
 permits time address permission = both (livePermission time permission) (sameAddress (permission .address) address)
+
+-- request 3: 'an entry with that IP address and an expiry above 0'
+unfoldable pub entered : Address → Permission → Bool
+entered address permission = both (ltb 0 (permission .expiry)) (sameAddress (permission .address) address)
+
+-- request 3: 'The permission lookup shall answer live, lapsed (none live, but an entry with that IP address and an expiry above 0) or else never.'
+unfoldable pub permissionState : ℕ → Address → List Permission → PermissionState
+permissionState time address permissions =
+    pick (has (find (permits time address) permissions)) Live (pick (has (find (entered address) permissions)) Lapsed Never)
 
 -- '.. or the lowest entry that isn't live takes it'
 unfoldable pub freePermission : ℕ → Permission → Bool

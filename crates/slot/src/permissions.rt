@@ -1,4 +1,4 @@
-// A slot's permissions: fresh, live, the one for an IP address, and the entry that takes one.
+// A slot's permissions: fresh, live, the one for an IP address, what is known of an IP address, and the entry that takes one.
 use crate::Found;
 use crate::Permission;
 use crate::Placed;
@@ -13,8 +13,15 @@ use choice::both;
 ghost use mathlib.Core.Path.{_≡_};
 ghost use Prim.Native.Nat.{_≤_, _^_};
 ghost use Rattle.slot.specs.Search.{find, putAt};
-ghost use Rattle.slot.specs.Slot.{freshPermission, livePermission, permits, permissionEntry, permit};
+ghost use Rattle.slot.specs.Slot.{freshPermission, livePermission, permits, permissionState, permissionEntry, permit};
 ghost use Rattle.slot.specs.Inner.{permissionMeets};
+
+// What the permissions say of an IP address: one is live for it, or one was, or there is none for it.
+pub enum PermissionState {
+    Live,
+    Lapsed,
+    Never,
+}
 
 // What a search of the permissions looks for: one that is live for an IP address, or one that isn't live.
 enum PermissionWanted {
@@ -72,10 +79,27 @@ fn search_permissions(time: u64, wanted: PermissionWanted, permissions: [Permiss
 }
 
 // The lowest live permission for the IP address.
-pub fn find_permission(time: u64, address: Address, permissions: [Permission; 8]) -> Found
+pub(crate) fn find_permission(time: u64, address: Address, permissions: [Permission; 8]) -> Found
     ensures { λ r. ⌜ r ≡ find (permits time address) permissions ⌝ }
 {
     search_permissions(time, PermissionWanted::For(address), permissions)
+}
+
+// What the permissions say of the IP address. An entry with an expiry above 0 is one that is live at 0.
+pub fn permission_state(
+    time: u64,
+    address: Address,
+    permissions: [Permission; 8],
+) -> PermissionState
+    ensures { λ r. ⌜ r ≡ permissionState time address permissions ⌝ }
+{
+    if has(find_permission(time, address, permissions)) {
+        return PermissionState::Live;
+    }
+    if has(find_permission(0, address, permissions)) {
+        return PermissionState::Lapsed;
+    }
+    PermissionState::Never
 }
 
 // The entry for an IP address: its live permission, or else the lowest that isn't live.

@@ -11,16 +11,24 @@ unfolding lineText sentTo answerOf
 returns c = rw (c .before .before .before .before .before .before .before .before .before .outcome .given .1) (sent-then (record { wrote = c .before .before .before .before .before .before .put-letter .ensures; size = refl }) (c .before .before .put-number .ensures .0))
 
 returns-2 : tie.Need-returns-2
-unfolding lineText sentTo answerOf
-returns-2 c = rw (c .before .before .before .before .enum-told .given .1) (record { wrote = c .before .before .put-letter2 .ensures; size = refl })
+unfolding lineText answerOf
+returns-2 c = rw (c .before .before .before .before .before .enum-told .given .1) (c .before .before .put-text .ensures)
 
 returns-3 : tie.Need-returns-3
-unfolding lineText sentTo answerOf
-returns-3 c = rw (c .before .before .before .before .before .before .before .before .before .before .outcome2 .given .1) (sent-then (record { wrote = c .before .before .before .before .before .before .put-letter3 .ensures; size = refl }) (c .before .before .put-sent .ensures .0))
+unfolding lineText answerOf
+returns-3 c = rw (c .before .before .before .before .before .enum-told2 .given .1) (c .before .before .put-text2 .ensures)
 
 returns-4 : tie.Need-returns-4
+unfolding lineText answerOf
+returns-4 c = rw (c .before .before .before .before .before .enum-told3 .given .1) (c .before .before .put-text3 .ensures)
+
+returns-5 : tie.Need-returns-5
+unfolding lineText sentTo answerOf
+returns-5 c = rw (c .before .before .before .before .before .before .before .before .before .before .outcome2 .given .1) (sent-then (record { wrote = c .before .before .before .before .before .before .put-letter2 .ensures; size = refl }) (c .before .before .put-sent .ensures .0))
+
+returns-6 : tie.Need-returns-6
 unfolding answerOf
-returns-4 c = rw (c .before .before .before .before .before .outcome3 .given .1) (c .before .before .put-to-peer .ensures)
+returns-6 c = rw (c .before .before .before .before .before .outcome3 .given .1) (c .before .before .put-to-peer .ensures)
 
 pub put-answer-spec : {M : Type 1} → statement M
 put-answer-spec =
@@ -28,5 +36,6 @@ put-answer-spec =
     (tie.spec (λ c. search needs) (λ c. search needs) (λ c. search needs) (λ c. search needs) (λ c. search needs) (λ c. search needs)
     (λ c. search needs) (λ c. search needs) (λ c. search needs) (λ c. search needs) (λ c. search needs) (λ c. search needs)
     (λ c. search needs) (λ c. search needs) (λ c. search needs) (λ c. search needs) (λ c. search needs) (λ c. search needs)
-    (λ c. search needs) (λ c. search needs) returns (λ c. search needs) returns-2 (λ c. search needs) returns-3 (λ c. search needs)
-    returns-4)
+    (λ c. search needs) (λ c. search needs) (λ c. search needs) (λ c. search needs) (λ c. search needs) (λ c. search needs)
+    (λ c. search needs) (λ c. search needs) (λ c. search needs) returns (λ c. search needs) returns-2 (λ c. search needs) returns-3
+    (λ c. search needs) returns-4 (λ c. search needs) returns-5 (λ c. search needs) returns-6)
