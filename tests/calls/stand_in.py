@@ -10,6 +10,7 @@ import time
 sys.dont_write_bytecode = True
 import program
 import calls as model
+import causes
 import prefixes
 import relay
 
@@ -174,6 +175,119 @@ def spoil_denied():
         model.open = lambda name, mode: open(name, mode, buffering=0)
 
 
+# -- why a datagram is dropped
+
+NAMED = causes.Named()
+
+
+def fresh_as_lapsed(permission_state):
+    def looked_up(self, slot, now, addr):
+        state = permission_state(self, slot, now, addr)
+        return "lapsed" if state == "never" and any(p.addr == addr for p in slot.perms) else state
+    return looked_up
+
+
+def a_second_early(permission_state):
+    return lambda self, slot, now, addr: permission_state(self, slot, now + 1, addr)
+
+
+def of_port(drop, now, slot, peer):
+    """A permission counts as lapsed for the ports alone that were named with it."""
+    return "never" if drop.reason == "lapsed" and peer[1] not in NAMED.by(slot)[peer[0]] else drop.reason
+
+
+def of_overwritten(drop, now, slot, peer):
+    return "lapsed" if drop.reason == "never" and peer[0] in NAMED.by(slot) else drop.reason
+
+
+def of_channels(drop, now, slot, peer):
+    is_bound = drop.reason != "other" and any(c.live(now) and (c.addr, c.port) == peer for c in slot.chans)
+    return "other" if is_bound else drop.reason
+
+
+def of_no_data(drop, now, slot, peer):
+    is_missing = drop.why == "send-no-data" and not any(p.addr == peer[0] and p.expiry for p in slot.perms)
+    return "never" if is_missing else drop.reason
+
+
+def of_lapsed_slots(drop, now, slot, peer):
+    is_over = drop.why in ("send-no-allocation", "peer-no-slot") and slot is not None
+    return "lapsed" if is_over and peer and any(p.addr == peer[0] and p.expiry for p in slot.perms) else drop.reason
+
+
+def of_ipv6(drop, now, slot, peer):
+    return "never" if drop.why.endswith("-IPv6") else drop.reason
+
+
+def retold(word):
+    """Sends and peers' datagrams whose drops say what `word` makes of the drop, the time, the slot that is meant, live or not, and the peer."""
+    def sending(send):
+        def sent(self, now, tuple5, m):
+            try:
+                return send(self, now, tuple5, m)
+            except relay.Drop as drop:
+                slot = causes.live_or_over(self.slots, now, lambda s: s.tuple5 == tuple5)
+                drop.reason = word(drop, now, slot, relay.read_address(m.first(relay.A_PEER) or b"", m.txid))
+                raise
+        return sent
+
+    def receiving(peer_datagram):
+        def received(self, now, addr, port, relay_port, *rest):
+            try:
+                return peer_datagram(self, now, addr, port, relay_port, *rest)
+            except relay.Drop as drop:
+                slot = causes.live_or_over(self.slots, now, lambda s: s.port == relay_port)
+                drop.reason = word(drop, now, slot, (addr, port))
+                raise
+        return received
+    rule(relay.Relay, "send", sending)
+    rule(relay.Relay, "peer_datagram", receiving)
+
+
+def naming(request):
+    def answered(self, now, user, tuple5, m):
+        out = request(self, now, user, tuple5, m)
+        NAMED.add(self.slots[self.find_tuple(now, tuple5)], m)
+        return out
+    return answered
+
+
+def channels_never(channel_data):
+    def relayed(self, now, tuple5, d):
+        try:
+            return channel_data(self, now, tuple5, d)
+        except relay.Drop as drop:
+            drop.reason = "never"
+            raise
+    return relayed
+
+
+# A fault, and how the permission lookup is changed for it, or what a drop says.
+LOOKUP_FAULTS = {
+    "a fresh entry counts as lapsed": fresh_as_lapsed,
+    "a permission is lapsed in its last second": a_second_early,
+}
+CAUSE_FAULTS = {
+    "an overwritten entry counts as lapsed": of_overwritten,
+    "the port is compared": of_port,
+    "a live channel says other": of_channels,
+    "a Send without DATA says never": of_no_data,
+    "a lapsed slot says lapsed": of_lapsed_slots,
+    "an IPv6 peer says never": of_ipv6,
+}
+
+
+def spoil_causes():
+    if FAULT in LOOKUP_FAULTS:
+        rule(relay.Relay, "permission_state", LOOKUP_FAULTS[FAULT])
+    elif FAULT in CAUSE_FAULTS:
+        rule(relay.Relay, "create_permission", naming)
+        rule(relay.Relay, "channel_bind", naming)
+        retold(CAUSE_FAULTS[FAULT])
+    elif FAULT == "ChannelData says never":
+        rule(relay.Relay, "channel_data", channels_never)
+
+
 def spoil_rules():
     if FAULT == "a permission lives at its expiry":
         relay.Permission.live = lambda self, t: t <= self.expiry
@@ -231,6 +345,8 @@ def answer(state, line):
     if FAULT == "trims a carriage return":
         line = line.rstrip(b"\r")
     out = model.one_line(state, line).encode() + b"\n"
+    if FAULT == "a drop gives no cause" and out.startswith(b"D"):
+        return b"D\n"
     return out[:-2] + b"0\n" if FAULT == "one digit is wrong" and out.endswith(b"1\n") else out
 
 
@@ -277,6 +393,7 @@ def started(files):
 def main():
     spoil_rules()
     spoil_denied()
+    spoil_causes()
     state = started(sys.argv[2:])
     if state is None:
         return
