@@ -8,7 +8,8 @@ use crate::explain;
 use crate::front;
 use crate::ledger::{Allocation, Change, Ledger};
 use crate::log::{self, Arrival, Log};
-use crate::refusals::{Refusal, Refusals};
+use crate::recent::Recent;
+use crate::refusals::Refusal;
 use crate::relay::Outcome;
 use crate::sockets::{Outbox, Sockets};
 use crate::stun;
@@ -34,7 +35,7 @@ pub struct Desk {
     pub log: Log,
     pub clock: Clock,
     pub counters: Counters,
-    pub refusals: Refusals,
+    pub refusals: Recent<Refusal>,
 }
 
 impl Desk {

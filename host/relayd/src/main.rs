@@ -21,6 +21,7 @@ mod prefix;
 mod program;
 mod random;
 mod rebuild;
+mod recent;
 mod refusals;
 mod relay;
 mod relayed;
@@ -191,6 +192,6 @@ fn desk(config: &Config, key: [u8; 32]) -> Result<Desk, Trouble> {
         log,
         clock: clock::Clock::new(config.clock_offset.is_some()),
         counters: counters::Counters::default(),
-        refusals: refusals::Refusals::default(),
+        refusals: recent::Recent::new(),
     })
 }

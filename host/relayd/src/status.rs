@@ -75,8 +75,8 @@ fn put_counts(text: &mut String, desk: &Desk, restarted: u64) {
 
 fn put_refusals(text: &mut String, desk: &Desk) {
     let _ = writeln!(text, "\nLast refusals:");
-    for kept in desk.refusals.kept() {
-        let told = kept.refusal.text(&desk.gate.who(kept.refusal.user, kept.refusal.from));
+    for kept in desk.refusals.last() {
+        let told = kept.event.text(&desk.gate.who(kept.event.user, kept.event.from));
         let times = if kept.count == 1 {
             String::new()
         } else {
