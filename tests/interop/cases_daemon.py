@@ -221,7 +221,7 @@ def case_denied_stays(lab):
 
 
 def case_calls_and_its_list(lab):
-    "calls is started with a list, or with none where nothing is denied; one that refuses it, or takes none, is told, with status 2"
+    "calls is started with a list, or with none where nothing is denied; one that refuses it, takes none, or is too old is told, with status 2"
     script, count = lab.folder / "listed-calls", lab.folder / "arguments"
 
     def program(body):
@@ -233,7 +233,8 @@ def case_calls_and_its_list(lab):
             assert count.read_text() == words
     for body, word in (("printf 'R\\t9\\n'", "refuses the list of denied prefixes: 9, a bad line"),
                        ("printf 'R\\t10\\n'", "refuses the list of denied prefixes: 10, more nodes than 512"), ("echo E", "cannot read the list of denied prefixes"),
-                       (f"exec {CALLS}", "takes no list of denied prefixes: it does not deny 127.0.0.0")):
+                       (f"exec {CALLS}", "takes no list of denied prefixes: it does not deny 127.0.0.0"),
+                       ("while read line; do echo D; done", "is too old: it does not say why it drops a datagram")):
         done = lab.run("relay", *lab.relayd_command(calls=program(body)), timeout=10)
         assert done.returncode == 2 and f"{script} {word}" in done.stderr, done
 

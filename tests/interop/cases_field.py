@@ -8,8 +8,8 @@ import subprocess
 import time
 
 import turn
-from cases_relay import nothing, ready, refused
-from lab import CALLS, CLIENT, INNER, PEER, RELAY_PORTS, SERVER, STRANGER, Status, wait_for
+from cases_relay import gone, nothing, ready, refused
+from lab import CALLS, CLIENT, INNER, NEVER, PEER, RELAY_PORTS, SERVER, STRANGER, STRANGERS, Status, wait_for
 
 BURST = 500
 
@@ -55,14 +55,18 @@ def case_flood(lab):
     with lab.relayd() as relayd:
         client, peer = ready(lab)
         stranger = lab.peer(STRANGER)
-        for _ in range(40):
-            for port in RELAY_PORTS:
-                stranger.sendto(b"flood", (SERVER, port))
-        client.send(peer.getsockname(), b"still there")
-        assert peer.recv(65536) == b"still there"
-        status = relayd.status()
-        assert status.drops("at the relay ports") == 40 * 128, status.text
-        assert status.drops("from peers") == 0, "the flood came as far as the relay"
+
+        def flood(sent):
+            for _ in range(40):
+                for port in RELAY_PORTS:
+                    stranger.sendto(b"flood", (SERVER, port))
+            client.send(peer.getsockname(), b"still there")
+            assert peer.recv(65536) == b"still there"
+            return gone(relayd, NEVER, sent)
+        # Of what comes to the one port with an allocation, the relay sees the first and what was queued then; after that, nothing.
+        at_relay, at_ports = flood(40 * 128)
+        assert STRANGERS <= at_relay <= 40, (at_relay, at_ports)
+        assert flood(80 * 128) == (at_relay, at_ports + 40 * 128), "the flood came as far as the relay"
         nothing(client, 0.05)
 
 
@@ -203,7 +207,7 @@ def case_program_killed_at_work(lab):
 def case_program_fails_for_good(lab):
     "a program that ends at every start is given up with status 1, and relayd says why"
     script = lab.folder / "short-lived"
-    script.write_text(f"#!/bin/sh\nread line; echo D; [ -e {lab.folder}/broken ] && exit 3; exec {CALLS} \"$@\"\n")
+    script.write_text(f"#!/bin/sh\nread line; printf 'D\\tother\\n'; [ -e {lab.folder}/broken ] && exit 3; exec {CALLS} \"$@\"\n")
     script.chmod(0o755)
     (lab.folder / "broken").unlink(missing_ok=True)
     with lab.relayd("--calls", script, calls=(), status=1) as relayd:

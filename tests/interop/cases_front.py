@@ -64,6 +64,17 @@ def case_passwords(lab):
         assert not [line for line in relayd.log() if "opensesame" in line]
 
 
+def case_dropped_send(lab):
+    "a Send is not signed: where it is dropped, it is told with the user of its allocation"
+    with credentials.relayd(lab) as relayd:
+        own = client(lab, *ALICE)
+        own.allocate()
+        own.send((PEER, 5000), b"too early")
+        own.refresh(600)
+        who = "{}:{}, user 3 (alice)".format(*own.sock.getsockname())
+        assert any(line.endswith(f" Send of {who}, to {PEER} dropped: it never had a permission") for line in relayd.events()), relayd.log()
+
+
 def case_nobody(lab):
     "without credentials: each of the four requests gets 401 with realm and nonce, and nothing is made"
     with credentials.relayd(lab) as relayd:
@@ -372,7 +383,7 @@ def password_flags(name, password):
 
 
 CASES = [case_passwords, case_nobody, case_wrong, case_errors_signed, case_against_unsigned, case_terminal, case_another_user, case_stale, case_replay, case_signatures, case_changed,
-         case_spoiled, case_algorithms, case_slowed, case_reload, case_local_peer, case_told, case_mode, case_aioice,
+         case_spoiled, case_algorithms, case_slowed, case_reload, case_local_peer, case_told, case_dropped_send, case_mode, case_aioice,
          uclient_case("with a password, channels", lambda: password_flags(*ALICE)),
          uclient_case("with a password, Send and Data", lambda: password_flags(*ALICE), "-s"),
          uclient_case("with a time-limited name", lambda: password_flags(*timed("guest", 60))),

@@ -5,7 +5,7 @@ import socket
 import time
 
 import turn
-from lab import CLIENT, INNER, PEER, RELAY_PORTS, SERVER, SERVER6, STRANGER, wait_for
+from lab import CLIENT, INNER, LAPSED, NEVER, PEER, RELAY_PORTS, SERVER, SERVER6, STRANGER, wait_for
 
 
 def refused(action, code):
@@ -32,6 +32,14 @@ def nothing(sock_or_client, seconds=0.3):
 def second(line):
     """The relay's second of a line of the log, which has it where there is --clock-offset."""
     return int(re.search(r"\[(\d+)\]", line)[1])
+
+
+def gone(relayd, cause, count):
+    """How many datagrams of this cause the relay or relayd has dropped, and how many the kernel, when there are so many of both."""
+    def drops():
+        status = relayd.status()
+        return status.drops(cause), status.drops("at the relay ports")
+    return wait_for(lambda: (found := drops()) and sum(found) == count and found, f"{count} drops")
 
 
 def ready(lab, server=SERVER):
@@ -94,7 +102,7 @@ def case_empty_datagram(lab):
         client.send(peer.getsockname(), b"still there")
         assert peer.recv(65536) == b"still there"
         status = relayd.status()
-        assert status.drops("neither STUN nor ChannelData") == 2 and status.drops("from clients") == 4, status.text
+        assert status.drops("neither STUN nor ChannelData") == 2 and status.drops("from clients: malformed") == 4, status.text
 
 
 def spoiled(chance):
@@ -125,8 +133,11 @@ def case_noise(lab):
         assert peer.recv(65536) == b"still there"
         ports = [f":{noise.sock.getsockname()[1]} " for noise in noisy]
         log, at_ports = relayd.log(), relayd.status().drops("at the relay ports")
-        # All but one relay port drop all that comes, and that one takes data of any form.
-        assert sum(" peer " in line and " bytes: to client " in line for line in log) + at_ports == 1500, at_ports
+        # A port without an allocation drops all that comes; one with an allocation takes data of any form from those with a permission.
+        fates = [found[1] for line in log if (found := re.search(r" peer \S+ at \d+ \d+ bytes: (.*)", line))]
+        assert len(fates) + at_ports == 1500, (len(fates), at_ports)
+        assert all(fate.startswith("to client ") or fate == "dropped, it never had a permission" for fate in fates), set(fates)
+        assert any(fate.startswith("to client ") for fate in fates)
         from_noisy = [line for line in log if " client " in line and any(port in line.split(" bytes: ")[0] + " " for port in ports)]
         assert len(from_noisy) == 1500, len(from_noisy)
         for kind in ("dropped", "Allocate success", "error 400", "error 420", "error 437"):
@@ -230,8 +241,11 @@ def case_port_scan(lab):
             client.permit(PEER)
         for port in RELAY_PORTS:
             stranger.sendto(b"scan", (SERVER, port))
-        wait_for(lambda: relayd.status().drops("at the relay ports") == 128, "the scan's end")
-        assert not any(f"peer {STRANGER}" in line for line in relayd.log()), "the scan woke relayd"
+        wait_for(lambda: relayd.status().drops("at the relay ports") == 120, "the scan's end")
+        # Each port with an allocation has let one in, for the relay to say why it is dropped; no other port has.
+        seen = [line.split(" at ")[1] for line in relayd.log() if f" peer {STRANGER}:" in line]
+        assert sorted(seen) == sorted(f"{client.relayed[1]} 4 bytes: dropped, it never had a permission" for client in clients), seen
+        assert relayd.status().drops(NEVER) == 8
         for client in clients:
             nothing(client, 0.05)
         # The same scan by the permitted peer does come through, so the silence means something.
@@ -253,7 +267,7 @@ def case_permission_lapses(lab):
             came += client.receive(0.05) is not None
             time.sleep(0.2)
         ages = [second(line) - made for line in relayd.log() if " peer " in line and " to client " in line]
-        dropped = relayd.status().drops("at the relay ports") + relayd.status().drops("from peers")
+        dropped = relayd.status().drops(LAPSED)
         assert came == len(ages) and came + dropped == 26, (came, ages, dropped)
         assert came > 1 and dropped > 1 and max(ages) < 300, (ages, dropped)
         assert relayd.status().of(client).permissions == {}

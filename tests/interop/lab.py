@@ -25,6 +25,9 @@ CLIENT, CLIENT6 = "198.51.100.7", "fd00:51::7"
 INNER = "192.0.2.1"
 PEER, STRANGER = "192.0.2.150", "192.0.2.151"
 RELAY_PORTS = range(49152, 49280)
+# How many datagrams of a peer that it does not know a relay port takes in a minute; and the lines of the status for such drops.
+STRANGERS = 20
+LAPSED, NEVER = "from peers: their permission lapsed", "from peers: they never had a permission"
 
 _libc = ctypes.CDLL(None, use_errno=True)
 
@@ -98,7 +101,7 @@ class Status:
     """What `--status` says."""
 
     def __init__(self, text):
-        head, *parts, ends, drops, refusals = text.split("\n\n")
+        head, *parts, ends, drops, last_drops, refusals = text.split("\n\n")
         self.text, self.count = text, head.splitlines()[2]
         clock = re.search(r"\[(\d+)\]", head)
         now = int(clock[1]) if clock else 0
@@ -110,7 +113,7 @@ class Status:
                 self.allocations[-1].add(line)
         self.totals = ends.splitlines()[1:]
         self.dropped = {what: int(count) for count, what in (line.split(maxsplit=1) for line in drops.splitlines()[1:])}
-        self.refusals = [line.strip() for line in refusals.splitlines()[1:]]
+        self.last_drops, self.refusals = ([line.strip() for line in part.splitlines()[1:]] for part in (last_drops, refusals))
 
     def of(self, client):
         """The allocation of one client."""

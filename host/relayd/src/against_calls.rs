@@ -5,6 +5,7 @@ use crate::denied::Denied;
 use crate::ledger::{Change, Ledger, place};
 use crate::line::{self, Answer};
 use crate::pipe::is_accepted;
+use crate::relay::Reason;
 use crate::stun::{self, CHANNEL_NUMBER, LIFETIME, REQUESTED_TRANSPORT, XOR_PEER_ADDRESS, ipv4_value};
 use crate::sys::memory;
 use crate::{rebuild, relayed};
@@ -13,6 +14,10 @@ use std::io::Write;
 use std::net::{Ipv4Addr, SocketAddr, SocketAddrV4};
 use std::os::fd::AsRawFd;
 use std::process::{Command, Stdio};
+
+/// The Send indication and its attribute, which relayd itself never writes.
+const SEND: u16 = 0x0016;
+const DATA: u16 = 0x0013;
 
 /// What `calls` answers to these lines, and its listing.
 fn ask(input: &[u8]) -> (Vec<String>, Vec<String>) {
@@ -149,12 +154,17 @@ fn tick(now: u64) -> Vec<u8> {
 }
 
 /// What one run of requests has met.
-#[derive(Default)]
+#[derive(Debug, Default)]
 struct Met {
     quota: usize,
     no_room: usize,
     accepted: usize,
     told_again: usize,
+    /// Datagrams to and from peers with a permission, with one that has lapsed, with one that has lapsed and is forgotten, and with none.
+    live: usize,
+    lapsed: usize,
+    forgotten: usize,
+    never: usize,
 }
 
 /// The Allocates of the live allocations, sent again.
@@ -165,6 +175,36 @@ fn repeats(ledger: &Ledger, now: u64) -> Vec<u8> {
         line::client(&mut lines, now, allocation.user, 0, allocation.client, &request);
     }
     lines
+}
+
+/// What the ledger knows of each peer, and what becomes of a datagram of it and of a Send to it. The relay may have forgotten a permission
+/// that has lapsed, where another has taken its entry.
+fn hold_permissions(ledger: &Ledger, now: u64, whole: &[u8], met: &mut Met) {
+    let (mut lines, mut asked) = (whole.to_vec(), Vec::new());
+    for allocation in ledger.allocations() {
+        for last in 0..10 {
+            let peer = SocketAddrV4::new([192, 0, 2, last].into(), 9);
+            line::peer(&mut lines, now, peer.into(), allocation.relay_port, b"");
+            let send = stun::request(SEND, &[(XOR_PEER_ADDRESS, &ipv4_value(peer)), (DATA, b"")]);
+            line::client(&mut lines, now, 0, 0, allocation.client, &send);
+            asked.push((allocation, *peer.ip()));
+        }
+    }
+    let (answers, _) = ask(&lines);
+    let begin = answers.len() - 2 * asked.len();
+    for ((allocation, host), answers) in asked.iter().zip(answers[begin..].chunks(2)) {
+        let known = (allocation.permissions.contains_key(host), allocation.lapsed_at(*host).is_some());
+        for answer in answers {
+            let found = match (line::read(answer.as_bytes(), &mut Vec::new()), known) {
+                (Some(Answer::ToClient(_) | Answer::ToPeer(..)), (true, false)) => &mut met.live,
+                (Some(Answer::Dropped(Reason::Lapsed)), (false, true)) => &mut met.lapsed,
+                (Some(Answer::Dropped(Reason::Never)), (false, true)) => &mut met.forgotten,
+                (Some(Answer::Dropped(Reason::Never)), (false, false)) => &mut met.never,
+                _ => panic!("{host} at {now}: {known:?}, {answer}"),
+            };
+            *found += 1;
+        }
+    }
 }
 
 /// A ledger beside a whole history, and the same as it is rebuilt again and again.
@@ -199,6 +239,7 @@ fn history(first: u64, met: &mut Met) {
         whole.extend(tick(now));
         let (_, listing) = ask(&whole);
         assert_eq!(rows_of(&ledger), by_owner(&listing), "from {first}, at {now}");
+        hold_permissions(&ledger, now, &whole, met);
         let (table, count) = rebuild::lines(&ledger, now);
         let repeats = repeats(&ledger, now);
         let (again, rebuilt) = ask(&[&table[..], &tick(now), &repeats].concat());
@@ -220,11 +261,11 @@ fn the_ledger_has_what_calls_lists_and_makes_it_again() {
     }
     assert!(
         met.quota > 100 && met.no_room > 100 && met.accepted > 10_000 && met.told_again > 100,
-        "{} {} {} {}",
-        met.quota,
-        met.no_room,
-        met.accepted,
-        met.told_again
+        "{met:?}"
+    );
+    assert!(
+        met.live > 1000 && met.lapsed > 1000 && met.forgotten > 100 && met.never > 1000,
+        "{met:?}"
     );
 }
 
@@ -266,7 +307,10 @@ fn what_is_garbage_here_is_dropped_or_refused_there() {
     assert!(answers[tried + 3].starts_with("S\t"), "a peer's 1,500 bytes come through");
     for answer in &answers[2..tried + 3] {
         let read = line::read(answer.as_bytes(), &mut Vec::new()).expect("an answer");
-        assert!(matches!(read, Answer::Dropped | Answer::Refused(4) | Answer::NotTaken), "{answer}");
+        assert!(
+            matches!(read, Answer::Dropped(_) | Answer::Refused(4) | Answer::NotTaken),
+            "{answer}"
+        );
     }
 }
 

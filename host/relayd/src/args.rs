@@ -20,7 +20,8 @@ relayd: the proved TURN relay on UDP sockets
                           # comments. It is read only at the start. 127.0.0.0/8, 0.0.0.0/8 and 169.254.0.0/16 are denied
                           by default, unless the relay's own address is in one of them
   --allow-local-peers     denies none of these three by default
-  --log FILE              allocations, permissions and channels, and refusals with why; - is standard error
+  --log FILE              allocations, permissions and channels, refusals with why, and peers without a permission that were
+                          dropped; - is standard error
   --log-packets           each datagram that the kernel lets in, and what became of it, too
   --status FILE           what is live, for people: written every 5 seconds and on SIGUSR1; without it, SIGUSR1
                           writes to standard output

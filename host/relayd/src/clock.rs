@@ -83,6 +83,15 @@ pub fn minutes(seconds: u64) -> String {
     format!("{}:{:02}", seconds / 60, seconds % 60)
 }
 
+/// How long ago something was: '12 s ago', and from a minute on in minutes and seconds.
+pub fn ago(seconds: u64) -> String {
+    if seconds < 60 {
+        format!("{seconds} s ago")
+    } else {
+        format!("{} ago", minutes(seconds))
+    }
+}
+
 /// A long time span: days, hours, minutes and seconds.
 pub fn days(seconds: u64) -> String {
     let (hours, minutes) = (seconds / 3600 % 24, seconds / 60 % 60);
@@ -119,6 +128,7 @@ mod tests {
         assert_eq!(minutes(0), "0:00");
         assert_eq!(minutes(581), "9:41");
         assert_eq!(minutes(3600), "60:00");
+        assert_eq!([0, 59, 60, 185].map(ago), ["0 s ago", "59 s ago", "1:00 ago", "3:05 ago"]);
         assert_eq!(days(3 * 86400 + 4 * 3600 + 5 * 60 + 6), "3 days 4:05:06");
     }
 }

@@ -1,6 +1,7 @@
 //! What relayd counts beside the allocations' own packets.
 
 use crate::ledger::Flow;
+use crate::relay::Reason;
 use std::collections::BTreeMap;
 
 /// Why a datagram that came in went nowhere, or a reply did not go out.
@@ -14,10 +15,14 @@ pub enum Cause {
     Tunnelled,
     /// Its source has had its answers of this second, and no right credentials.
     Slowed,
-    /// The relay dropped what a client sent.
-    Client,
-    /// The relay dropped what a peer sent.
-    Peer,
+    /// The relay dropped what a client sent, by its reason.
+    ClientLapsed,
+    ClientNever,
+    ClientOther,
+    /// The relay dropped what a peer sent, by its reason.
+    PeerLapsed,
+    PeerNever,
+    PeerOther,
     /// The relay refused the call.
     Refused,
     /// The program failed at it.
@@ -30,18 +35,40 @@ pub enum Cause {
 
 impl Cause {
     /// Each, in the order of the status.
-    pub const ALL: [Cause; 10] = [
+    pub const ALL: [Cause; 14] = [
         Cause::Senseless,
         Cause::TooLong,
         Cause::Tunnelled,
         Cause::Slowed,
-        Cause::Client,
-        Cause::Peer,
+        Cause::ClientLapsed,
+        Cause::ClientNever,
+        Cause::ClientOther,
+        Cause::PeerLapsed,
+        Cause::PeerNever,
+        Cause::PeerOther,
         Cause::Refused,
         Cause::Lost,
         Cause::NotSent,
         Cause::NotReceived,
     ];
+
+    /// Of what the relay dropped of a client's.
+    pub fn of_client(reason: Reason) -> Self {
+        match reason {
+            Reason::Lapsed => Cause::ClientLapsed,
+            Reason::Never => Cause::ClientNever,
+            Reason::Other => Cause::ClientOther,
+        }
+    }
+
+    /// Of what the relay dropped of a peer's.
+    pub fn of_peer(reason: Reason) -> Self {
+        match reason {
+            Reason::Lapsed => Cause::PeerLapsed,
+            Reason::Never => Cause::PeerNever,
+            Reason::Other => Cause::PeerOther,
+        }
+    }
 
     /// For people.
     pub fn text(self) -> &'static str {
@@ -50,8 +77,12 @@ impl Cause {
             Cause::TooLong => "over 1,500 bytes",
             Cause::Tunnelled => "sent from Teredo or 6to4 addresses",
             Cause::Slowed => "without right credentials, too many a second from one address",
-            Cause::Client => "from clients: malformed, or no allocation, permission or channel",
-            Cause::Peer => "from peers: no permission",
+            Cause::ClientLapsed => "from clients: Send to a peer whose permission lapsed",
+            Cause::ClientNever => "from clients: Send to a peer that never had a permission",
+            Cause::ClientOther => "from clients: malformed, or no allocation or channel",
+            Cause::PeerLapsed => "from peers: their permission lapsed",
+            Cause::PeerNever => "from peers: they never had a permission",
+            Cause::PeerOther => "from peers: no allocation has the port",
             Cause::Refused => "refused by the relay",
             Cause::Lost => "lost with the relay's program",
             Cause::NotSent => "could not be sent",
@@ -66,8 +97,12 @@ impl Cause {
             Cause::TooLong => "too_long",
             Cause::Tunnelled => "tunnelled",
             Cause::Slowed => "slowed",
-            Cause::Client => "client",
-            Cause::Peer => "peer",
+            Cause::ClientLapsed => "client_lapsed",
+            Cause::ClientNever => "client_never",
+            Cause::ClientOther => "client_other",
+            Cause::PeerLapsed => "peer_lapsed",
+            Cause::PeerNever => "peer_never",
+            Cause::PeerOther => "peer_other",
             Cause::Refused => "refused",
             Cause::Lost => "lost",
             Cause::NotSent => "not_sent",
@@ -124,7 +159,26 @@ mod tests {
             }
         }
         let counts: Vec<u64> = Cause::ALL.iter().map(|cause| counters.dropped(*cause)).collect();
-        assert_eq!(counts, (0..10).collect::<Vec<u64>>());
+        assert_eq!(counts, (0..14).collect::<Vec<u64>>());
+    }
+
+    #[test]
+    fn drops_of_the_relay_have_their_reason() {
+        let reasons = [Reason::Lapsed, Reason::Never, Reason::Other];
+        let labels: Vec<&str> = (reasons.map(Cause::of_client).iter().chain(&reasons.map(Cause::of_peer)))
+            .map(|cause| cause.label())
+            .collect();
+        assert_eq!(
+            labels,
+            [
+                "client_lapsed",
+                "client_never",
+                "client_other",
+                "peer_lapsed",
+                "peer_never",
+                "peer_other"
+            ]
+        );
     }
 
     #[test]

@@ -4,13 +4,15 @@ use crate::admission::{Gate, Sender};
 use crate::clock::{Clock, minutes};
 use crate::counters::{Cause, Counters};
 use crate::denied::Denied;
+use crate::drops::Dropped;
 use crate::explain;
+use crate::filter::LetIn;
 use crate::front;
 use crate::ledger::{Allocation, Change, Ledger};
 use crate::log::{self, Arrival, Log};
 use crate::recent::Recent;
 use crate::refusals::Refusal;
-use crate::relay::Outcome;
+use crate::relay::{Outcome, Reason};
 use crate::sockets::{Outbox, Sockets};
 use crate::stun;
 use crate::users;
@@ -36,16 +38,17 @@ pub struct Desk {
     pub clock: Clock,
     pub counters: Counters,
     pub refusals: Recent<Refusal>,
+    pub drops: Recent<Dropped>,
 }
 
 impl Desk {
     /// Does what an outcome says.
     pub fn settle(&mut self, call: &Call, outcome: &Outcome) {
+        let mut told = *outcome;
         match (call.arrival, outcome) {
             (_, Outcome::Refused(_)) => self.counters.drop(Cause::Refused),
             (_, Outcome::Lost) => self.counters.drop(Cause::Lost),
-            (Arrival::Client(_), Outcome::Dropped) => self.counters.drop(Cause::Client),
-            (Arrival::Peer(..), Outcome::Dropped) => self.counters.drop(Cause::Peer),
+            (_, Outcome::Dropped(reason)) => told = Outcome::Dropped(self.dropped(call, *reason)),
             (Arrival::Client(_), Outcome::ToClient { to, bytes }) => self.respond(call, *to, bytes),
             (Arrival::Peer(_, relay_port), Outcome::ToClient { to, bytes }) => {
                 self.counters.to_clients.add(call.datagram.len());
@@ -57,13 +60,43 @@ impl Desk {
             (_, Outcome::ToPeer { relay_port, to, bytes }) => self.send_to_peer(*relay_port, *to, bytes),
         }
         if self.log.has_packets() {
-            self.log.packet(&self.clock, call.arrival, call.datagram.len(), &log::fate(outcome));
+            self.log.packet(&self.clock, call.arrival, call.datagram.len(), &log::fate(&told));
+        }
+    }
+
+    /// The relay has dropped a datagram. Gives why, as people are told.
+    fn dropped(&mut self, call: &Call, reason: Reason) -> Reason {
+        let dropped = Dropped::of(&self.ledger, call.arrival, call.datagram, reason);
+        let reason = dropped.map_or(reason, |dropped| dropped.reason());
+        self.counters.drop(match call.arrival {
+            Arrival::Client(_) => Cause::of_client(reason),
+            Arrival::Peer(..) => Cause::of_peer(reason),
+        });
+        self.count_stranger(call.now, call.arrival);
+        if let Some(dropped) = dropped {
+            if self.drops.add(call.now, self.clock.stamp(), dropped) {
+                self.event(&dropped.text(call.now, &self.gate));
+            }
+        }
+        reason
+    }
+
+    /// Counts a peer's datagram that goes nowhere, if the relay port does not know the peer: it takes only so many of these.
+    fn count_stranger(&mut self, now: u64, arrival: Arrival) {
+        let Arrival::Peer(SocketAddr::V4(from), relay_port) = arrival else {
+            return;
+        };
+        let Some(allocation) = self.ledger.at_mut(relay_port) else { return };
+        if allocation.known().all(|known| known != *from.ip()) {
+            allocation.strangers.add(now);
+            self.let_in(now, relay_port);
         }
     }
 
     /// A datagram that goes nowhere, and that the relay did not see.
     pub fn drop(&mut self, arrival: Arrival, length: usize, cause: Cause) {
         self.counters.drop(cause);
+        self.count_stranger(self.clock.now(), arrival);
         if self.log.has_packets() {
             self.log.packet(&self.clock, arrival, length, &log::fate_before(cause));
         }
@@ -121,7 +154,7 @@ impl Desk {
         self.counters.accepted += 1;
         let recorded = self.ledger.record(call.now, call.sender.user, client, call.datagram, response);
         let Some((relay_port, change)) = recorded else { return };
-        self.let_in(relay_port);
+        self.let_in(call.now, relay_port);
         let (user, name) = (call.sender.user, call.sender.name.as_deref());
         let whose = users::who(user, name.or_else(|| self.gate.name(user, client)));
         let who = format!("{whose}, client {client}, relay port {relay_port}");
@@ -160,34 +193,47 @@ impl Desk {
         }
     }
 
-    /// Tells the kernel which peers' datagrams a relay port takes.
-    fn let_in(&self, relay_port: u16) {
-        let permitted = self
-            .ledger
-            .at(relay_port)
-            .into_iter()
-            .flat_map(|allocation| allocation.permissions.keys());
-        self.sockets.let_in(relay_port, &permitted.copied().collect::<Vec<_>>());
+    /// Tells the kernel whose datagrams a relay port takes.
+    fn let_in(&mut self, now: u64, relay_port: u16) {
+        self.sockets.let_in(relay_port, LetIn::of(self.ledger.at(relay_port), now));
     }
 
     /// Takes out of the ledger what is over, and tells what is due in the log.
     pub fn lapse(&mut self, now: u64) {
-        let (over, fewer) = self.ledger.lapse(now);
-        for relay_port in fewer.into_iter().chain(over.iter().map(|gone| gone.relay_port)) {
-            self.let_in(relay_port);
+        let over = self.ledger.lapse(now);
+        let ports: Vec<u16> = (over.iter().chain(self.ledger.allocations()))
+            .map(|allocation| allocation.relay_port)
+            .collect();
+        for relay_port in ports {
+            self.let_in(now, relay_port);
         }
         for gone in over {
             let whose = self.gate.who(gone.user, gone.client);
             let who = format!("{whose}, client {}, relay port {}", gone.client, gone.relay_port);
             self.event(&ended("lapsed", &who, &gone));
         }
-        let (due, hushed) = self.refusals.due(now);
-        for (refusal, count) in due {
+        self.tell_counts(now);
+    }
+
+    /// Tells how often refusals and drops came again.
+    fn tell_counts(&mut self, now: u64) {
+        let (refusals, hushed_refusals) = self.refusals.due(now);
+        let (drops, hushed_drops) = self.drops.due(now);
+        for (refusal, count) in refusals {
             let text = refusal.text(&self.gate.who(refusal.user, refusal.from));
             self.event(&format!("{text}; {count} times more"));
         }
-        if hushed > 0 {
-            self.event(&format!("{hushed} more refusals from other sources"));
+        for (dropped, count) in drops {
+            let text = dropped.text(now, &self.gate);
+            self.event(&format!("{text}; {count} times more"));
+        }
+        for (hushed, what) in [
+            (hushed_refusals, "refusals from other sources"),
+            (hushed_drops, "drops of other peers"),
+        ] {
+            if hushed > 0 {
+                self.event(&format!("{hushed} more {what}"));
+            }
         }
     }
 

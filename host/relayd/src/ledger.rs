@@ -1,9 +1,10 @@
 //! The live allocations, as the accepted requests and their replies tell them.
 //!
 //! The relay's own table is inside the proved program. An accepted request and its reply say all that it changes there (document 01's words
-//! of demand 3), so relayd keeps the same table beside it: to show it, to let the kernel drop what has no permission, and to make a new
-//! program's table if the old one ends. A test holds it against the program's own listing.
+//! of demand 3), so relayd keeps the same table beside it: to show it, to let the kernel drop what has no permission, to say why something
+//! was dropped, and to make a new program's table if the old one ends. A test holds it against the program's own listing.
 
+use crate::filter::Strangers;
 use crate::stun::{self, TransactionId};
 use std::collections::BTreeMap;
 use std::net::{Ipv4Addr, SocketAddr, SocketAddrV4};
@@ -17,6 +18,8 @@ pub const SLOTS: usize = 64;
 /// Document 01's times of life, in seconds.
 pub const PERMISSION: u64 = 300;
 pub const CHANNEL: u64 = 600;
+/// How many permissions that have lapsed are remembered for an allocation: twice as many as it can have.
+const REMEMBERED: usize = 16;
 
 /// Packets and bytes of data that went one way.
 #[derive(Clone, Copy, Default, Debug, PartialEq, Eq)]
@@ -44,10 +47,14 @@ pub struct Allocation {
     pub expiry: u64,
     /// When each ends.
     pub permissions: BTreeMap<Ipv4Addr, u64>,
+    /// Those that have lapsed last and were not made again, and when each has; oldest first.
+    lapsed: Vec<(Ipv4Addr, u64)>,
     /// Its peer, and when it ends.
     pub channels: BTreeMap<u16, (SocketAddrV4, u64)>,
     pub to_peers: Flow,
     pub to_client: Flow,
+    /// What came at its port from those who are not known there.
+    pub strangers: Strangers,
 }
 
 /// What an accepted request has changed.
@@ -141,39 +148,58 @@ impl Ledger {
             relay_port,
             expiry: now + seconds,
             permissions: BTreeMap::new(),
+            lapsed: Vec::new(),
             channels: BTreeMap::new(),
             to_peers: Flow::default(),
             to_client: Flow::default(),
+            strangers: Strangers::default(),
         });
         Some((relay_port, Change::Made(seconds)))
     }
 
-    /// Takes out what is over at this time: gives the allocations, and the ports of those that lost a permission.
-    pub fn lapse(&mut self, now: u64) -> (Vec<Allocation>, Vec<u16>) {
-        let (mut over, mut fewer) = (Vec::new(), Vec::new());
+    /// Takes out what is over at this time, and gives the allocations.
+    pub fn lapse(&mut self, now: u64) -> Vec<Allocation> {
+        let mut over = Vec::new();
         for slot in &mut self.0 {
             let Some(allocation) = slot else { continue };
-            let before = allocation.permissions.len();
-            allocation.permissions.retain(|_, expiry| now < *expiry);
-            allocation.channels.retain(|_, (_, expiry)| now < *expiry);
-            if allocation.permissions.len() < before {
-                fewer.push(allocation.relay_port);
-            }
+            allocation.lapse(now);
             if allocation.expiry <= now {
                 over.extend(slot.take());
             }
         }
-        (over, fewer)
+        over
     }
 }
 
 impl Allocation {
+    /// When a host's permission has lapsed, if that is remembered.
+    pub fn lapsed_at(&self, host: Ipv4Addr) -> Option<u64> {
+        self.lapsed.iter().find(|(other, _)| *other == host).map(|(_, second)| *second)
+    }
+
+    /// Those that have a permission, and those whose permission has lapsed.
+    pub fn known(&self) -> impl Iterator<Item = Ipv4Addr> {
+        self.permissions.keys().copied().chain(self.lapsed.iter().map(|(host, _)| *host))
+    }
+
     /// Those that were not permitted before.
     fn permit(&mut self, now: u64, peers: impl Iterator<Item = SocketAddrV4>) -> Vec<Ipv4Addr> {
         let hosts = peers.map(|peer| *peer.ip());
-        hosts
+        let new: Vec<Ipv4Addr> = hosts
             .filter(|host| self.permissions.insert(*host, now + PERMISSION).is_none())
-            .collect()
+            .collect();
+        self.lapsed.retain(|(host, _)| !new.contains(host));
+        new
+    }
+
+    /// Takes out the permissions and channels that are over, and remembers the permissions that were the last.
+    fn lapse(&mut self, now: u64) {
+        let over = self.permissions.iter().filter(|(_, expiry)| **expiry <= now);
+        self.lapsed.extend(over.map(|(host, expiry)| (*host, *expiry)));
+        self.lapsed.sort_by_key(|(_, second)| *second);
+        self.lapsed.drain(..self.lapsed.len().saturating_sub(REMEMBERED));
+        self.permissions.retain(|_, expiry| now < *expiry);
+        self.channels.retain(|_, (_, expiry)| now < *expiry);
     }
 
     fn bind(&mut self, now: u64, number: u16, peer: SocketAddrV4) -> Change {
@@ -270,11 +296,66 @@ pub mod tests {
         allocate(&mut ledger, 0, client(1), 49152, 600);
         allocate(&mut ledger, 0, client(2), 49279, 3600);
         bind(&mut ledger, 0, client(2), 0x4000, "192.0.2.150:5000");
-        assert_eq!(ledger.lapse(299), (vec![], vec![]));
-        assert_eq!(ledger.lapse(300), (vec![], vec![49279]));
-        let (over, _) = ledger.lapse(600);
+        let permitted = |ledger: &Ledger| ledger.at(49279).map(|allocation| allocation.permissions.len());
+        assert_eq!((ledger.lapse(299), permitted(&ledger)), (vec![], Some(1)));
+        assert_eq!((ledger.lapse(300), permitted(&ledger)), (vec![], Some(0)));
+        let over = ledger.lapse(600);
         assert_eq!(over.iter().map(|gone| gone.relay_port).collect::<Vec<_>>(), [49152]);
         assert!(ledger.at(49279).expect("it is there").channels.is_empty());
+    }
+
+    /// Makes a permission for 192.0.2.HOST.
+    fn permit(ledger: &mut Ledger, now: u64, host: u8) {
+        let value = ipv4_value(SocketAddrV4::new([192, 0, 2, host].into(), 0));
+        let made = ledger.record(
+            now,
+            3,
+            client(1),
+            &request(stun::CREATE_PERMISSION, &[(XOR_PEER_ADDRESS, &value)]),
+            &[],
+        );
+        assert!(matches!(made, Some((49157, Change::Permitted(_)))));
+    }
+
+    /// When the permission for 192.0.2.HOST has lapsed, and whether that host is known.
+    fn lapsed(ledger: &Ledger, host: u8) -> (Option<u64>, bool) {
+        let (own, host) = (ledger.at(49157).expect("it is there"), [192, 0, 2, host].into());
+        (own.lapsed_at(host), own.known().any(|known| known == host))
+    }
+
+    #[test]
+    fn a_lapsed_permission_is_remembered_until_it_is_made_again() {
+        let mut ledger = Ledger::new();
+        allocate(&mut ledger, 0, client(1), 49157, 3600);
+        permit(&mut ledger, 10, 1);
+        ledger.lapse(309);
+        assert_eq!(lapsed(&ledger, 1), (None, true));
+        ledger.lapse(312);
+        assert_eq!(lapsed(&ledger, 1), (Some(310), true));
+        assert_eq!(lapsed(&ledger, 2), (None, false));
+        permit(&mut ledger, 320, 1);
+        assert_eq!(lapsed(&ledger, 1), (None, true));
+        ledger.lapse(1000);
+        assert_eq!(lapsed(&ledger, 1), (Some(620), true));
+        // It goes with its allocation: the next one at the port begins anew.
+        ledger.lapse(3600);
+        allocate(&mut ledger, 3600, client(1), 49157, 600);
+        assert_eq!(lapsed(&ledger, 1), (None, false));
+    }
+
+    #[test]
+    fn the_last_that_lapsed_are_remembered() {
+        let mut ledger = Ledger::new();
+        allocate(&mut ledger, 0, client(1), 49157, 3600);
+        // Made in an order that is not that of their addresses.
+        for step in 0..20 {
+            permit(&mut ledger, u64::from(step), 40 - step);
+        }
+        ledger.lapse(1000);
+        for step in 0..20 {
+            let second = (step >= 4).then_some(300 + u64::from(step));
+            assert_eq!(lapsed(&ledger, 40 - step), (second, step >= 4), "{step}");
+        }
     }
 
     #[test]

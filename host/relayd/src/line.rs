@@ -1,5 +1,6 @@
 //! The lines of the proved program `calls`: written for a call, read for an answer.
 
+use crate::relay::Reason;
 use std::net::{IpAddr, SocketAddr};
 
 /// An answer as it stands: `bytes` of it are in the buffer that `read` filled.
@@ -7,8 +8,8 @@ use std::net::{IpAddr, SocketAddr};
 pub enum Answer {
     /// `R`: refused, with its number.
     Refused(u8),
-    /// `D`: dropped.
-    Dropped,
+    /// `D`: dropped, with why.
+    Dropped(Reason),
     /// `E`: the line is not of the program's forms.
     NotTaken,
     /// `S`: to this client.
@@ -83,7 +84,6 @@ pub fn peer(lines: &mut Vec<u8>, now: u64, from: SocketAddr, relay_port: u16, da
 /// Reads an answer without its newline, and puts its bytes behind `bytes`. None where it is of no form.
 pub fn read(line: &[u8], bytes: &mut Vec<u8>) -> Option<Answer> {
     let (kind, mut rest) = match line {
-        b"D" => return Some(Answer::Dropped),
         b"E" => return Some(Answer::NotTaken),
         [kind, b'\t', rest @ ..] => (*kind, rest),
         _ => return None,
@@ -97,12 +97,23 @@ pub fn read(line: &[u8], bytes: &mut Vec<u8>) -> Option<Answer> {
     };
     let answer = match kind {
         b'R' => return decimal(rest).map(Answer::Refused),
+        b'D' => return reason(rest).map(Answer::Dropped),
         b'S' => Answer::ToClient(place(field()?, field()?)?),
         b'F' => Answer::ToPeer(decimal(field()?)?, place(field()?, field()?)?),
         _ => return None,
     };
     read_hex(rest, bytes)?;
     Some(answer)
+}
+
+/// The word behind a `D`.
+fn reason(word: &[u8]) -> Option<Reason> {
+    match word {
+        b"lapsed" => Some(Reason::Lapsed),
+        b"never" => Some(Reason::Never),
+        b"other" => Some(Reason::Other),
+        _ => None,
+    }
 }
 
 /// A decimal number that fits its type.
@@ -161,7 +172,9 @@ mod tests {
     #[test]
     fn answers() {
         let mut bytes = vec![9];
-        assert_eq!(read(b"D", &mut bytes), Some(Answer::Dropped));
+        assert_eq!(read(b"D\tlapsed", &mut bytes), Some(Answer::Dropped(Reason::Lapsed)));
+        assert_eq!(read(b"D\tnever", &mut bytes), Some(Answer::Dropped(Reason::Never)));
+        assert_eq!(read(b"D\tother", &mut bytes), Some(Answer::Dropped(Reason::Other)));
         assert_eq!(read(b"E", &mut bytes), Some(Answer::NotTaken));
         assert_eq!(read(b"R\t4", &mut bytes), Some(Answer::Refused(4)));
         let to_client = read(b"S\tfd000000000000000000000000000001\t40000\t01fe", &mut bytes);
@@ -201,7 +214,11 @@ mod tests {
         for line in [
             &b""[..],
             b"X",
+            b"D",
             b"D\t",
+            b"D\tlate",
+            b"D\tother\t",
+            b"Dother",
             b"R\t256",
             b"R\t1\t",
             b"S\tc0000296\t1\t00\t00",

@@ -3,7 +3,7 @@
 use crate::clock::Clock;
 use crate::counters::Cause;
 use crate::output::{Output, to_standard_error};
-use crate::relay::Outcome;
+use crate::relay::{Outcome, Reason};
 use crate::stun;
 use std::net::SocketAddr;
 use std::path::{Path, PathBuf};
@@ -112,7 +112,9 @@ fn append(path: &Path) -> Result<Output, String> {
 pub fn fate(outcome: &Outcome) -> String {
     match outcome {
         Outcome::Refused(number) => format!("refused {number}, {}", refusal(*number)),
-        Outcome::Dropped => "dropped".to_string(),
+        Outcome::Dropped(Reason::Lapsed) => "dropped, its permission lapsed".to_string(),
+        Outcome::Dropped(Reason::Never) => "dropped, it never had a permission".to_string(),
+        Outcome::Dropped(Reason::Other) => "dropped".to_string(),
         Outcome::Lost => "lost with the relay's program".to_string(),
         Outcome::ToClient { to, bytes } => format!("to client {to} {} bytes, {}", bytes.len(), message(bytes)),
         Outcome::ToPeer { relay_port, to, bytes } => format!("to peer {to} from {relay_port} {} bytes", bytes.len()),
@@ -162,7 +164,9 @@ mod tests {
     fn outcomes_are_told_with_why() {
         let to = SocketAddr::from(([192, 0, 2, 1], 5));
         assert_eq!(fate(&Outcome::Refused(4)), "refused 4, datagram over 1,500 bytes");
-        assert_eq!(fate(&Outcome::Dropped), "dropped");
+        assert_eq!(fate(&Outcome::Dropped(Reason::Lapsed)), "dropped, its permission lapsed");
+        assert_eq!(fate(&Outcome::Dropped(Reason::Never)), "dropped, it never had a permission");
+        assert_eq!(fate(&Outcome::Dropped(Reason::Other)), "dropped");
         let reply = stun::error_response(&stun::request(stun::ALLOCATE, &[]), 486);
         let error = fate(&Outcome::ToClient { to, bytes: &reply });
         assert_eq!(error, "to client 192.0.2.1:5 28 bytes, Allocate error 486 Allocation Quota Reached");

@@ -8,7 +8,9 @@ mod clock;
 mod counters;
 mod denied;
 mod desk;
+mod drops;
 mod explain;
+mod filter;
 mod front;
 mod ledger;
 mod line;
@@ -193,5 +195,6 @@ fn desk(config: &Config, key: [u8; 32]) -> Result<Desk, Trouble> {
         clock: clock::Clock::new(config.clock_offset.is_some()),
         counters: counters::Counters::default(),
         refusals: recent::Recent::new(),
+        drops: recent::Recent::new(),
     })
 }

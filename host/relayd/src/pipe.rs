@@ -4,7 +4,7 @@
 use crate::denied::Denied;
 use crate::line::{self, Answer};
 use crate::program::{Executable, Program, Trouble};
-use crate::relay::{Outcome, Stop};
+use crate::relay::{Outcome, Reason, Stop};
 use crate::relayed;
 use crate::stun::{self, REQUESTED_TRANSPORT, XOR_PEER_ADDRESS, ipv4_value};
 use crate::sys::signals::Watch;
@@ -176,7 +176,7 @@ impl Pipe {
         let bytes = &self.batch.bytes[range.clone()];
         match *answer {
             Answer::Refused(number) => Outcome::Refused(number),
-            Answer::Dropped => Outcome::Dropped,
+            Answer::Dropped(reason) => Outcome::Dropped(reason),
             // No datagram that comes this far makes such a line.
             Answer::NotTaken => Outcome::Lost,
             Answer::ToClient(to) => Outcome::ToClient { to, bytes },
@@ -245,12 +245,13 @@ fn begin(executable: &Executable, watch: Watch) -> Result<Program, Trouble> {
     let (mut lines, mut text) = (Vec::new(), Vec::new());
     line::peer(&mut lines, 0, NOBODY.into(), 0, b"");
     program.ask(&lines, 1, &mut text, watch)?;
-    let answer = line::read(text.trim_ascii_end(), &mut Vec::new());
-    let why = match answer {
-        Some(Answer::Dropped) => return Ok(program),
+    let answer = text.trim_ascii_end();
+    let why = match line::read(answer, &mut Vec::new()) {
+        Some(Answer::Dropped(Reason::Other)) => return Ok(program),
         Some(Answer::Refused(9)) if executable.has_list() => "refuses the list of denied prefixes: 9, a bad line",
         Some(Answer::Refused(10)) if executable.has_list() => "refuses the list of denied prefixes: 10, more nodes than 512",
         Some(Answer::NotTaken) if executable.has_list() => "cannot read the list of denied prefixes",
+        None if answer == b"D" => "is too old: it does not say why it drops a datagram",
         _ => "does not answer as calls does",
     };
     Err(Trouble::Program(why.to_string()))
@@ -302,9 +303,12 @@ mod tests {
         }
     }
 
+    /// Answers a line as `calls` does the first.
+    const FIRST: &str = r"read line; printf 'D\tother\n'";
+
     /// Answers the first line as `calls` does, and then each with `answer`.
     fn always(answer: &str) -> String {
-        format!("read line; echo D; while read line; do printf '{answer}\\n'; done")
+        format!("{FIRST}; while read line; do printf '{answer}\\n'; done")
     }
 
     fn from() -> SocketAddr {
@@ -336,7 +340,7 @@ mod tests {
     #[test]
     fn a_program_that_ends_is_started_again_with_its_table() {
         // Ends at its fourth line, and answers the table's request with success.
-        let body = r"n=0; while read line; do n=$((n+1)); case $line in *T*) printf 'S\tc6336407\t40000\t010800002112a442000000000000000000000000\n';; P*) echo D;; *) [ $n = 4 ] && exit 1; echo 'R	1';; esac; done";
+        let body = r"n=0; while read line; do n=$((n+1)); case $line in *T*) printf 'S\tc6336407\t40000\t010800002112a442000000000000000000000000\n';; P*) printf 'D\tother\n';; *) [ $n = 4 ] && exit 1; echo 'R	1';; esac; done";
         let script = Script::new("again", body);
         let mut pipe = start(&script).expect("it starts");
         assert_eq!(ask(&mut pipe, 4), Err(Trouble::Program("has ended (exit status: 1)".to_string())));
@@ -360,7 +364,7 @@ mod tests {
 
     #[test]
     fn a_program_that_fails_again_and_again_ends_relayd() {
-        let script = Script::new("never", "read line; echo D; read line; exit 1");
+        let script = Script::new("never", &format!("{FIRST}; read line; exit 1"));
         let mut pipe = start(&script).expect("it starts");
         let stop = pipe.restart("has ended", b"T\n", 1, |_| {});
         assert!(matches!(stop, Err(Stop::Failed(why)) if why.contains("5 times before")));
@@ -371,7 +375,7 @@ mod tests {
         let script = Script::new("senseless", &always("hello"));
         let mut pipe = start(&script).expect("it starts");
         assert_eq!(ask(&mut pipe, 1), Err(Trouble::Program("answers 'hello'".to_string())));
-        let script = Script::new("talkative", &always(r"D\nD\nD"));
+        let script = Script::new("talkative", &always(r"D\tother\nD\tother"));
         let mut pipe = start(&script).expect("it starts");
         assert_eq!(ask(&mut pipe, 1), Err(Trouble::Program("answers what was not asked".to_string())));
     }
@@ -383,7 +387,7 @@ mod tests {
         for answer in ["S\tc6336407\t40000\t01180000", "S\tc6336407\t40000\t00170000"] {
             assert!(!is_accepted(format!("{answer}{head}").as_bytes()), "{answer}");
         }
-        for answer in ["S\tc6336407\t40000\t", "D", "E", "R\t1", ""] {
+        for answer in ["S\tc6336407\t40000\t", "D\tother", "E", "R\t1", ""] {
             assert!(!is_accepted(answer.as_bytes()), "{answer}");
         }
     }
@@ -391,8 +395,7 @@ mod tests {
     #[test]
     fn a_list_that_has_no_effect_is_told() {
         let denied = Denied::open(true, None).expect("the defaults");
-        let permits =
-            r"read line; echo D; while read line; do printf 'S\tc6336407\t40000\t010800002112a442000000000000000000000000\n'; done";
+        let permits = always(r"S\tc6336407\t40000\t010800002112a442000000000000000000000000");
         for (name, body, told) in [
             (
                 "refuses-9",
@@ -405,7 +408,11 @@ mod tests {
                 "refuses the list of denied prefixes: 10, more nodes than 512",
             ),
             ("unread", "echo E", "cannot read the list of denied prefixes"),
-            ("permits", permits, "takes no list of denied prefixes: it does not deny 127.0.0.0"),
+            (
+                "permits",
+                permits.as_str(),
+                "takes no list of denied prefixes: it does not deny 127.0.0.0",
+            ),
         ] {
             let script = Script::new(name, body);
             let why = start_denying(&denied, &script).err().expect(told);
@@ -421,7 +428,7 @@ mod tests {
         let mark = std::env::temp_dir().join(format!("relayd-test-{}-starts", std::process::id()));
         let error_403 = r"printf 'S\tc6336407\t40000\t011800082112a4420000000000000000000000000009000400000403\n'";
         let body = format!(
-            "echo >>{0}; [ $(wc -l <{0}) -gt 2 ] && echo E && exit; read line; echo D; while read line; do {error_403}; done",
+            "echo >>{0}; [ $(wc -l <{0}) -gt 2 ] && echo E && exit; {FIRST}; while read line; do {error_403}; done",
             mark.display()
         );
         let denied = Denied::open(true, None).expect("the defaults");
@@ -434,6 +441,12 @@ mod tests {
     #[test]
     fn what_is_not_calls_does_not_start() {
         assert!(start(&Script::new("wrong", "echo hello")).is_err());
+        for (name, answer) in [("lapsed", r"D\tlapsed"), ("worded", r"D\tlate")] {
+            let why = start(&Script::new(name, &format!("printf '{answer}\\n'"))).err().expect(answer);
+            assert!(why.ends_with("does not answer as calls does"), "{why}");
+        }
+        let why = start(&Script::new("older", "echo D")).err().expect("an older calls");
+        assert!(why.ends_with("older is too old: it does not say why it drops a datagram"), "{why}");
         assert!(Executable::open(Path::new("/no/such/calls")).is_err());
         assert!(Executable::open(Path::new("/")).is_err());
     }

@@ -4,7 +4,7 @@
 use crate::ledger::SLOTS;
 use std::collections::VecDeque;
 
-/// How many are kept: as many as the relay can have permissions.
+/// How many are kept: as many as the relay can have permissions, so that when all of them lapse, each peer that goes on is one event.
 const KEPT: usize = 8 * SLOTS;
 /// How many of them are shown.
 const SHOWN: usize = 32;

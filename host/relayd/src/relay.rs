@@ -3,13 +3,24 @@
 
 use std::net::SocketAddr;
 
+/// Why the relay dropped a datagram.
+#[derive(Clone, Copy, Debug, PartialEq, Eq)]
+pub enum Reason {
+    /// For want of a permission alone, and the peer had one that has lapsed.
+    Lapsed,
+    /// For want of a permission alone, and the relay's table has none that has lapsed.
+    Never,
+    /// Anything else.
+    Other,
+}
+
 /// Document 01's four outcomes, and one more.
-#[derive(Debug, PartialEq, Eq)]
+#[derive(Clone, Copy, Debug, PartialEq, Eq)]
 pub enum Outcome<'a> {
     /// Refused, with document 01's number.
     Refused(u8),
     /// Nothing to send.
-    Dropped,
+    Dropped(Reason),
     /// The program failed at this call twice, and was started again without it.
     Lost,
     /// These bytes go to this client, from the server's socket.

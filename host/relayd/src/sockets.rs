@@ -1,5 +1,6 @@
 //! The sockets: the server's one or two, and one for each relay port.
 
+use crate::filter::LetIn;
 use crate::ledger::{FIRST_PORT, PORTS, place};
 use crate::sys::options::{ask_for_buffers, dropped, let_in_all, let_in_only};
 use std::io;
@@ -14,6 +15,8 @@ pub struct Sockets {
     servers: Vec<UdpSocket>,
     /// The relay ports', in order.
     ports: Vec<UdpSocket>,
+    /// What each of them lets in.
+    let_in: Vec<LetIn>,
     listen: Vec<SocketAddr>,
     /// The receive buffer that the least favoured socket has.
     pub buffer: u32,
@@ -45,14 +48,15 @@ impl Sockets {
             .collect::<Result<_, _>>()?;
         let places = (FIRST_PORT..FIRST_PORT + PORTS).map(|port| SocketAddr::from((relay, port)));
         let ports: Vec<UdpSocket> = places.map(|address| bind("relay port", address)).collect::<Result<_, _>>()?;
-        let sockets = Sockets {
+        let mut sockets = Sockets {
             servers,
+            let_in: vec![LetIn::All; ports.len()],
             ports,
             listen: listen.to_vec(),
             buffer,
         };
         for port in FIRST_PORT..FIRST_PORT + PORTS {
-            sockets.let_in(port, &[]);
+            sockets.let_in(port, LetIn::Only(Vec::new()));
         }
         Ok(sockets)
     }
@@ -89,16 +93,27 @@ impl Sockets {
         (place < self.ports.len()).then_some(self.servers.len() + place)
     }
 
-    /// Lets only these peers' datagrams in at a relay port. Where the kernel does not take the filter, all are let in and the relay drops.
-    pub fn let_in(&self, relay_port: u16, peers: &[Ipv4Addr]) {
-        let Some(socket) = self.ports.get(place(relay_port)) else { return };
-        if let_in_only(socket, peers).is_err() {
+    /// Lets these in at a relay port. Where the kernel does not take the filter, all are let in and the relay drops.
+    pub fn let_in(&mut self, relay_port: u16, whom: LetIn) {
+        let place = place(relay_port);
+        let (Some(socket), Some(now)) = (self.ports.get(place), self.let_in.get_mut(place)) else {
+            return;
+        };
+        if *now == whom {
+            return;
+        }
+        let filtered = match &whom {
+            LetIn::All => false,
+            LetIn::Only(peers) => let_in_only(socket, peers).is_ok(),
+        };
+        if !filtered {
             let _ = let_in_all(socket);
         }
+        *now = whom;
     }
 
-    /// How many datagrams the kernel has dropped: for want of room at the server's sockets, and at the relay ports, where they had no
-    /// permission or there was no room.
+    /// How many datagrams the kernel has dropped: for want of room at the server's sockets, and at the relay ports, where they were not let
+    /// in or there was no room.
     pub fn dropped_by_kernel(&self) -> (u64, u64) {
         let sum = |sockets: &[UdpSocket]| sockets.iter().map(|socket| u64::from(dropped(socket).unwrap_or(0))).sum();
         (sum(&self.servers), sum(&self.ports))

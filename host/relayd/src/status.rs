@@ -3,8 +3,10 @@
 use crate::clock::{days, minutes};
 use crate::counters::Cause;
 use crate::desk::Desk;
+use crate::filter::STRANGERS;
 use crate::front::Front;
 use crate::ledger::{Allocation, Flow, SLOTS};
+use crate::recent::{Event, Kept, Recent};
 use std::fmt::Write;
 
 /// The whole text. Writing to a string never fails.
@@ -17,7 +19,10 @@ pub fn text(desk: &Desk, restarted: u64, about: &str) -> String {
         put_allocation(&mut text, desk, allocation, now);
     }
     put_counts(&mut text, desk, restarted);
-    put_refusals(&mut text, desk);
+    put_last(&mut text, "drops", &desk.drops, |kept| kept.event.text(kept.last, &desk.gate));
+    put_last(&mut text, "refusals", &desk.refusals, |kept| {
+        kept.event.text(&desk.gate.who(kept.event.user, kept.event.from))
+    });
     text
 }
 
@@ -67,21 +72,24 @@ fn put_counts(text: &mut String, desk: &Desk, restarted: u64) {
     let (server, ports) = desk.sockets.dropped_by_kernel();
     let _ = writeln!(text, "\nDropped:");
     let _ = writeln!(text, "  {server} at the server's address, for want of room");
-    let _ = writeln!(text, "  {ports} at the relay ports: no allocation, no permission, or no room");
+    let _ = writeln!(
+        text,
+        "  {ports} at the relay ports: no allocation, over {STRANGERS} a minute without a permission, or no room"
+    );
     for cause in Cause::ALL {
         let _ = writeln!(text, "  {} {}", counters.dropped(cause), cause.text());
     }
 }
 
-fn put_refusals(text: &mut String, desk: &Desk) {
-    let _ = writeln!(text, "\nLast refusals:");
-    for kept in desk.refusals.last() {
-        let told = kept.event.text(&desk.gate.who(kept.event.user, kept.event.from));
+/// The last of one kind, each as it came last, and how often it came.
+fn put_last<T: Event>(text: &mut String, what: &str, recent: &Recent<T>, told: impl Fn(&Kept<T>) -> String) {
+    let _ = writeln!(text, "\nLast {what}:");
+    for kept in recent.last() {
         let times = if kept.count == 1 {
             String::new()
         } else {
             format!(" ({} times)", kept.count)
         };
-        let _ = writeln!(text, "  {} {told}{times}", kept.stamp);
+        let _ = writeln!(text, "  {} {}{times}", kept.stamp, told(kept));
     }
 }
