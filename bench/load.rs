@@ -258,6 +258,11 @@ impl Run {
         for socket in &receivers {
             socket.set_nonblocking(true)?;
         }
+        if let Some(first) = load.flood {
+            // relayd takes the first few of each minute, to say why they are dropped. The flood that comes after them is measured.
+            self.flood(load, first)?;
+            thread::sleep(Duration::from_millis(60));
+        }
         let cpu_now = || pids.iter().map(|pid| cpu(pid)).collect::<Result<Vec<u64>>>();
         let (before, lost_before) = (cpu_now()?, overflow(&receivers)?);
         let (sent, came, mut took) = if let Some(first) = load.flood {
