@@ -29,6 +29,8 @@ use Rattle.history.specs.Events.{CallFits, Arrival, acts, outcome, repli
 use Rattle.history.specs.Statement.{Demand3From}
 use Rattle.history.specs.Lines.{Row, Ran, RanAll, FromLine, FromLines}
 use Rattle.history.proofs.Demand.{demand-3-from}
+use Rattle.history.specs.Causes.{CausesFrom}
+use Rattle.history.proofs.Causes.{causes-from}
 use Rattle.history.specs.Denied.{AllMeet, KeptOut}
 use Rattle.history.proofs.Denied.{tree-stays, kept-out}
 use Rattle.history.proofs.Whole.{accounts-empty}
@@ -201,6 +203,14 @@ lines-demand-3 denied rows last ran =
     let first = meeting denied empty in
     let l = lines-lived rows first last ran in
     (l .0, l .1, demand-3-from first [] accounts-empty (l .0) last (l .2))
+
+-- what the field of `D` means, of the lines too
+pub lines-causes : (denied : List ℕ) (rows : List Row) (last : State) → RanAll (meeting denied empty) rows last
+    → (list : List Event) × FromLines rows list × CausesFrom [] list
+lines-causes denied rows last ran =
+    let first = meeting denied empty in
+    let l = lines-lived rows first last ran in
+    (l .0, l .1, causes-from first [] accounts-empty (l .0) last (l .2))
 
 -- and of the lines that are run with the tree of a text: nothing passes between a client and an address that it denies
 pub lines-kept-out : (text old : List ℕ) → readDenied text old .number ≡ 0 → (rows : List Row) (last : State) → RanAll (meeting (readDenied text old .nodes) empty) rows last
