@@ -59,7 +59,7 @@ use Rattle.history.specs.Denied.{AllMeet, KeptOut}
 use Rattle.history.proofs.Demand.{lived-middle}
 use Rattle.history.proofs.Slots.{place-keeps, found-keeps, MayPermit, permits-keep, refreshed-keeps, Writes, next-keeps}
 use Rattle.history.proofs.Replies.{dropped-not-sent, dropped-not-relayed}
-use Rattle.history.proofs.Tests.{find-some, has-at, live-permission, numbered-is}
+use Rattle.history.proofs.Tests.{find-some, has-at, lookup-says, numbered-is}
 
 -- no call changes the tree
 pub tree-stays : (st : State) (call : Call) (s : List ℕ) (reply : ℕ) → stateAfter st (act st call s reply) .bookkeeping .denied ≡ st .bookkeeping .denied
@@ -162,7 +162,7 @@ module _ (nodes : List ℕ) where
   permitted-kept : (t : ℕ) (peer : TransportAddress) (slot : Slot) → Clean slot → permissionOf t peer slot ≡ Live → Reachable (peer .address)
   unfolding permissionOf
   permitted-kept t peer slot f live =
-      let p = live-permission t (peer .address) (slot .permissions) live in
+      let p = rw live at (lookup-says t (peer .address) (slot .permissions)) in
       rw (p .same) at (f .permissions (p .at) (omega (arith, p .live)))
 
   peer-kept : (call : FromPeer) (s : List ℕ) (own : Bool) (slot : Slot) → Clean slot → Kept (Peer call) (relayFromPeer (call .time) (call .source) (call .id) s own slot)

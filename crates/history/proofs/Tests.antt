@@ -9,13 +9,14 @@ use lib.Dec.{ltb}
 use lib.ListN.{length, getD}
 use borrow.Author.Tests.{ltb-true, ltb-false, leb-true, eqb-true, eqb-false, le-ltb, lt-ltb, le-leb, not-true}
 use Rattle.choice.specs.Choice.{pick, both}
-use Rattle.choice.proofs.Laws.{chosen, both-parts, both-true}
+use Rattle.choice.proofs.Laws.{both-parts, both-true}
 use Rattle.address.specs.declared.Address.{Address}
 use Rattle.address.specs.declared.FiveTuple.{FiveTuple}
 use Rattle.address.specs.declared.TransportAddress.{TransportAddress}
 use Rattle.address.specs.Address.{sameAddress, sameTransportAddress, sameFiveTuple}
 use Rattle.address.proofs.Laws.{address-same, address-refl, transport-address-same, transport-address-refl, five-tuple-same, five-tuple-refl}
 use Rattle.slot.specs.declared.Permission.{Permission}
+use Rattle.slot.specs.declared.permissions.PermissionState.{PermissionState}
 use Rattle.slot.specs.declared.permissions.PermissionState.the-variants as PermissionState
 use Rattle.slot.specs.declared.Channel.{Channel}
 use Rattle.slot.specs.declared.Slot.{Slot}
@@ -149,16 +150,6 @@ module _ (t : ℕ) where
       go true e = inl (has-permission→ a l e)
       go false e = inr (has-permission← a l e)
 
-  -- what the permission lookup says
-  pub live-permission : (a : Address) (l : List Permission) → permissionState t a l ≡ PermissionState.Live → HasPermission t a l
-  unfolding permissionState
-  live-permission a l e = go (has (find (permits t a) l)) refl e
-    where
-      go : (b : Bool) → has (find (permits t a) l) ≡ b
-          → pick b PermissionState.Live (pick (has (find (entered a) l)) PermissionState.Lapsed PermissionState.Never) ≡ PermissionState.Live → HasPermission t a l
-      go true q e = has-permission→ a l q
-      go false q e = chosen (λ s. s ≡ PermissionState.Live → HasPermission t a l) (has (find (entered a) l)) (λ _ e. let z : _≡_ {A = ℕ} 0 1 = cc in absurd (omega arith)) (λ _ e. let z : _≡_ {A = ℕ} 0 1 = cc in absurd (omega arith)) e
-
   -- ---- Channels
   pub channel-is : (c : Channel) → liveChannel t c ≡ true → LiveChannel t c
   unfolding liveChannel isChannelNumber
@@ -190,11 +181,17 @@ module _ (t : ℕ) where
       clash (sameTransportAddress (channelAt l i .peer) p) (rw (← q) (transport-address-refl (channelAt l i .peer)))
       (both-not _ _ (find-none (leadsTo t p) l freshChannel (rw fresh-channel) e i) (channel-of _ x))
 
--- an entry with an expiry above 0 is one that was live at 0
-pub entered→ : (a : Address) (l : List Permission) → has (find (entered a) l) ≡ true → HasPermission 0 a l
-unfolding entered permits livePermission
-entered→ a l e = has-permission→ 0 a l e
+-- ---- The permission lookup. An entry with an expiry above 0 is one that was live at 0
+abbrev pub Says : ℕ → Address → List Permission → PermissionState → Type 0
+Says t a l PermissionState.Live = HasPermission t a l
+Says t a l PermissionState.Lapsed = (HasPermission t a l → ⊥) × HasPermission 0 a l
+Says t a l PermissionState.Never = (HasPermission t a l → ⊥) × (HasPermission 0 a l → ⊥)
 
-pub entered← : (a : Address) (l : List Permission) → has (find (entered a) l) ≡ false → HasPermission 0 a l → ⊥
-unfolding entered permits livePermission
-entered← a l e = has-permission← 0 a l e
+pub lookup-says : (t : ℕ) (a : Address) (l : List Permission) → Says t a l (permissionState t a l)
+unfolding permissionState entered permits livePermission
+lookup-says t a l = go (has (find (permits t a) l)) (has (find (permits 0 a) l)) refl refl
+  where
+    go : (b c : Bool) → has (find (permits t a) l) ≡ b → has (find (permits 0 a) l) ≡ c → Says t a l (pick b PermissionState.Live (pick c PermissionState.Lapsed PermissionState.Never))
+    go true c q r = has-permission→ t a l q
+    go false true q r = (has-permission← t a l q, has-permission→ 0 a l r)
+    go false false q r = (has-permission← t a l q, has-permission← 0 a l r)

@@ -14,11 +14,12 @@ use Rattle.address.specs.declared.FiveTuple.{FiveTuple}
 use Rattle.address.specs.declared.TransportAddress.{TransportAddress}
 use Rattle.address.specs.declared.TransactionId.{TransactionId}
 use Rattle.slot.specs.declared.Slot.{Slot}
+use Rattle.slot.specs.declared.permissions.PermissionState.{PermissionState}
 use Rattle.slot.specs.declared.permissions.PermissionState.the-variants as PermissionState
 use Rattle.slot.specs.declared.Found.{Found}
 use Rattle.slot.specs.declared.Found.the-variants.{At, Nothing}
 use Rattle.slot.specs.Search.{find, has, atOr}
-use Rattle.slot.specs.Slot.{freshSlot, permits, entered, permissionState, holdsPort}
+use Rattle.slot.specs.Slot.{freshSlot, permissionState, holdsPort}
 use Rattle.table.specs.Table.{slotAt, inSlot}
 use Rattle.rules.specs.declared.answer.Outcome.{Outcome}
 use Rattle.rules.specs.declared.answer.Outcome.the-variants.{Refused, DroppedLapsed, DroppedNever, DroppedOther, ToClient}
@@ -33,9 +34,9 @@ use Rattle.interface.specs.declared.incoming.Call.the-variants.{Client, Peer}
 use Rattle.interface.specs.declared.incoming.FromPeer.{FromPeer}
 use Rattle.state.specs.State.{State, empty, clockOf, atTime}
 use Rattle.state.specs.Outcomes.{Act, refuse, accept, outcomeOf, replyAfter, stateAfter}
-use Rattle.interface.specs.Refusals.{timeOf, refusal}
+use Rattle.interface.specs.Refusals.{timeOf}
 use Rattle.decisions.specs.Decisions.{namesDenied, onAsked, decided}
-use Rattle.state.specs.Step.{done, decision, accepted, act}
+use Rattle.state.specs.Step.{done, decision, accepted}
 use Rattle.state.proofs.Laws.{acted}
 use Rattle.relay.proofs.Laws.{not-refused}
 use Rattle.history.specs.Counted.{Counted, nothing, withoutRepeats}
@@ -47,7 +48,7 @@ use Rattle.history.proofs.Table as table
 use Rattle.history.proofs.Table.{HasPermission, Accounts, AccountsFor, own-port, accounts-later, Reach, reach→, reach←}
 use Rattle.history.proofs.Keep.{keep as keep-accounts}
 use Rattle.history.proofs.Replies.{dropped-not-sent}
-use Rattle.history.proofs.Tests.{find-some, port-is, none-port, has-permission→, has-permission←, entered→, entered←}
+use Rattle.history.proofs.Tests.{find-some, port-is, none-port, Says, lookup-says}
 use Rattle.history.proofs.Made.{quiet, made-asked}
 
 -- ---- The empty relay
@@ -189,30 +190,24 @@ module _ (l : List Slot) (t x p R : ℕ) (id : TransactionId) (s : List ℕ) whe
   call = record { time = t; source = record { address = V4 x; port = p }; port = R; id = id }
 
   arrives : Verdict l t R (V4 x) (rules.outcomeOf (peer-out call l s))
-  unfolding peer-out relayFromPeer peerCause any permissionOf permissionState unlessDropped atOr
+  unfolding peer-out relayFromPeer peerCause any permissionOf unlessDropped atOr
   arrives = go (find (inSlot (holdsPort t R)) l) refl
     where
       Sent : Slot → Out
       Sent slot = toClient (slot .allocation .«five_tuple») (relayed t (call .source) id s slot)
 
-      at : (k : ℕ) → find (inSlot (holdsPort t R)) l ≡ At k → (b c : Bool) → has (find (permits t (V4 x)) (slotAt l k .permissions)) ≡ b
-          → has (find (entered (V4 x)) (slotAt l k .permissions)) ≡ c
-          → Verdict l t R (V4 x) (rules.outcomeOf (unlessDropped false (pick b PermissionState.Live (pick c PermissionState.Lapsed PermissionState.Never)) (Sent (slotAt l k))))
-      at k e b c q r =
-          let f = port-is t R (slotAt l k) (find-some (inSlot (holdsPort t R)) l freshSlot k e .0) in
-          by b c q r (f .0) (f .1)
-        where
-          by : (b c : Bool) → has (find (permits t (V4 x)) (slotAt l k .permissions)) ≡ b → has (find (entered (V4 x)) (slotAt l k .permissions)) ≡ c
-              → Live t (slotAt l k) → slotAt l k .allocation .port ≡ R
-              → Verdict l t R (V4 x) (rules.outcomeOf (unlessDropped false (pick b PermissionState.Live (pick c PermissionState.Lapsed PermissionState.Never)) (Sent (slotAt l k))))
-          by true c q r live port = reaches _ _ refl (record { i = k; live = live; who = refl; port = port; perm = has-permission→ t (V4 x) _ q })
-          by false true q r live port = shut k live port (has-permission← t (V4 x) _ q) (inl (refl, entered→ (V4 x) _ r))
-          by false false q r live port = shut k live port (has-permission← t (V4 x) _ q) (inr (refl, entered← (V4 x) _ r))
+      at : (k : ℕ) → Live t (slotAt l k) → slotAt l k .allocation .port ≡ R → (s : PermissionState) → Says t (V4 x) (slotAt l k .permissions) s
+          → Verdict l t R (V4 x) (rules.outcomeOf (unlessDropped false s (Sent (slotAt l k))))
+      at k live port PermissionState.Live p = reaches _ _ refl (record { i = k; live = live; who = refl; port = port; perm = p })
+      at k live port PermissionState.Lapsed p = shut k live port (p .0) (inl (refl, p .1))
+      at k live port PermissionState.Never p = shut k live port (p .0) (inr (refl, p .1))
 
       go : (f : Found) → find (inSlot (holdsPort t R)) l ≡ f
           → Verdict l t R (V4 x) (rules.outcomeOf (unlessDropped (pick (not (has f)) true false) (permissionState t (V4 x) (atOr freshSlot f l .permissions)) (Sent (atOr freshSlot f l))))
       go Nothing e = nobodys refl (none-port t R l e)
-      go (At k) e = at k e (has (find (permits t (V4 x)) (slotAt l k .permissions))) (has (find (entered (V4 x)) (slotAt l k .permissions))) refl refl
+      go (At k) e =
+          let f = port-is t R (slotAt l k) (find-some (inSlot (holdsPort t R)) l freshSlot k e .0) in
+          at k (f .0) (f .1) (permissionState t (V4 x) (slotAt l k .permissions)) (lookup-says t (V4 x) (slotAt l k .permissions))
 
 -- in a call that is not refused
 module _ (st : State) (past : List Counted) (I : AccountsFor past st) (a : Arrival) (R x t : ℕ) (from : FromAddress a R (V4 x) t)
