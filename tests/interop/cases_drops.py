@@ -52,10 +52,10 @@ def case_lapsed_peer(lab):
         words = f"{PEER} dropped at {client.relayed[1]}: its permission lapsed"
         wait_for(lambda: relayd.status().drops(LAPSED) == 40, "40 drops")
         event, = told(relayd, words)
-        assert event.endswith(f" {words} {ago(second(event) - end)}") and 12 <= second(event) - end < 20, event
+        assert event.endswith(f" {words} {ago(second(event) - end)}") and second(event) - end >= 12, event
         status = relayd.status()
         line, = status.last_drops
-        assert f" {words} " in line and line.endswith(" s ago (40 times)"), status.text
+        assert f" {words} " in line and line.endswith(" ago (40 times)"), status.text
         assert (status.drops(NEVER), status.drops("at the relay ports")) == (0, 0), status.text
         wait_for(lambda: causes(relayd, metrics) == {"peer_lapsed": 40}, "the metrics")
         assert fates(relayd, f"peer {PEER}") == ["dropped, its permission lapsed"] * 40
@@ -72,7 +72,8 @@ def case_lapsed_peer(lab):
         relayd.forward()
         peer.sendto(b"again", client.relayed)
         wait_for(lambda: relayd.status().drops(LAPSED) == 41, "the drop")
-        assert len(told(relayd, words)) == 3 and told(relayd, words)[2].endswith(" s ago")
+        end, (*_, event) = last(relayd, client, "CreatePermission") + 300, told(relayd, words)
+        assert event.endswith(f" {words} {ago(second(event) - end)}"), event
 
 
 def case_strangers(lab):
@@ -144,7 +145,7 @@ def case_dropped_sends(lab):
         assert never.endswith(f" {who} {STRANGER} dropped: it never had a permission"), never
         status = relayd.status()
         assert [status.drops(words) for words in ("whose permission lapsed", "Send to a peer that never", "from clients: malformed")] == [3, 1, 2], status.text
-        assert status.last_drops[0].endswith(" s ago (3 times)") and status.last_drops[1].endswith(never.split("] ")[1]), status.text
+        assert status.last_drops[0].endswith(" ago (3 times)") and status.last_drops[1].endswith(never.split("] ")[1]), status.text
         found = [fate for fate in fates(relayd, f"client {CLIENT}:20002") if fate.startswith("dropped")]
         assert found == ["dropped, its permission lapsed"] * 3 + ["dropped, it never had a permission"] + ["dropped"] * 2, found
 
