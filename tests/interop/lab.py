@@ -139,7 +139,7 @@ class Relayd:
         return (self.folder / "log").read_text().splitlines()
 
     def log(self):
-        """The log with the lines of all replies that have come: relayd writes them out before it looks at the next signal."""
+        """The log with the lines of all replies that have come: relayd writes them out before a status that is asked for."""
         self.status()
         return self.written()
 

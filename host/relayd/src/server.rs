@@ -244,6 +244,8 @@ impl Server {
                 SIGHUP => self.parts.reload(),
                 SIGUSR1 => {
                     self.lapse(self.parts.desk.clock.now());
+                    // What the status has, the log has.
+                    self.parts.desk.log.flush();
                     self.parts.report(true);
                 }
                 SIGUSR2 => self.parts.forward(),
