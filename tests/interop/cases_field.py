@@ -276,8 +276,8 @@ def case_events(lab):
         client.refresh(900)
         for _ in range(5):
             refused(client.allocate, 437)
-        dont_fragment = turn.attribute(0x001A, b"")
-        refused(lambda: lab.client().allocate(dont_fragment), 420)
+        even_port = turn.attribute(0x0018, b"\0\0\0\0")
+        refused(lambda: lab.client().request(turn.ALLOCATE, even_port), 420)
         others = [lab.client(local=(CLIENT, 20002 + 32 * place)) for place in range(1, 9)]
         for other in others[:7]:
             other.allocate()
@@ -288,7 +288,7 @@ def case_events(lab):
         who = f"user 3, client {CLIENT}:20002, relay port {client.relayed[1]}"
         for word in (f"allocation made: {who}, for 10:00", f"permission made: {who}, peer {PEER}", f"channel made: {who}, channel 0x4000, peer {STRANGER}:5000",
                      f"allocation refreshed: {who}, for 15:00", f"437 Allocation Mismatch: it has relay port {client.relayed[1]}\n",
-                     "420 Unknown Attribute: 0x001a DONT-FRAGMENT", "486 Allocation Quota Reached: user 3 has 8", "; 4 times more", "allocation ended, given back: user 3"):
+                     "420 Unknown Attribute: 0x0018 EVEN-PORT", "486 Allocation Quota Reached: user 3 has 8", "; 4 times more", "allocation ended, given back: user 3"):
             assert log.count(word) == 1, (word, log)
         assert all(re.match(r"\d{4}-\d\d-\d\dT\d\d:\d\d:\d\dZ ", line) for line in log.splitlines()), log
         for _ in range(9):

@@ -368,10 +368,10 @@ def case_aioice(lab):
             assert relayd.status().allocations == []
 
 
-def uclient_case(what, who, *flags, **mode):
+def uclient_case(what, who, *flags):
     def case(lab):
         with echo(lab), credentials.relayd(lab) as relayd:
-            uclient(lab, SERVER, PORT, *who(), *flags, **mode)
+            uclient(lab, SERVER, PORT, *who(), *flags)
             refusals = [line for line in relayd.log() if " error " in line and "no credentials yet" not in line]
             assert not refusals and "allocation made: user" in "\n".join(relayd.written()), refusals
     case.__doc__ = f"turnutils_uclient, {what}: no packet lost"
@@ -386,6 +386,5 @@ CASES = [case_passwords, case_nobody, case_wrong, case_errors_signed, case_again
          case_spoiled, case_algorithms, case_slowed, case_reload, case_local_peer, case_told, case_dropped_send, case_mode, case_aioice,
          uclient_case("with a password, channels", lambda: password_flags(*ALICE)),
          uclient_case("with a password, Send and Data", lambda: password_flags(*ALICE), "-s"),
-         uclient_case("with a password and RTCP, on even ports and the next", lambda: password_flags(*ALICE), rtcp=True),
          uclient_case("with a time-limited name", lambda: password_flags(*timed("guest", 60))),
          uclient_case("which makes its own time-limited name from the secret", lambda: ["-u", "guest", "-W", credentials.SECRET])]

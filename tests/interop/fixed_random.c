@@ -1,15 +1,13 @@
 /* Preloaded into coturn's turnutils_uclient, which is not changed otherwise.
  *
  * uclient takes its channel numbers at random from 0x4000 to 0x7FFF (RFC 5766's range; document 01 and RFC 8656 end at 0x4FFF and
- * answer 400), and where it uses no RTCP, it adds EVEN-PORT to its Allocate when a random number is odd. Here all its random numbers are
- * below 0x1000, each other than the one before, so its channels stay below 0x5000 and its transaction ids still differ; and all are even,
- * so that it asks for no even port by chance, or with ODD_RANDOM in the environment all odd, so that it always does. */
-#include <stdlib.h>
-
+ * answer 400), and adds EVEN-PORT to its Allocate when a random number is odd (document 01 doesn't know it and answers 420). Here all its
+ * random numbers are even and below 0x1000, each other than the one before, so its channels stay below 0x5000, it asks for no even
+ * port, and its transaction ids still differ. */
 static unsigned next(void) {
     static unsigned count;
     count = (count + 2) % 0x1000;
-    return count + (getenv("ODD_RANDOM") != NULL);
+    return count;
 }
 
 int RAND_bytes(unsigned char *to, int length) {

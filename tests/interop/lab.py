@@ -103,7 +103,6 @@ class Status:
     def __init__(self, text):
         head, *parts, ends, drops, last_drops, refusals = text.split("\n\n")
         self.text, self.count = text, head.splitlines()[2]
-        self.reserved = {int(port): seconds(left) for port, left in re.findall(r"relay port (\d+) is reserved, (\S+) left", head)}
         clock = re.search(r"\[(\d+)\]", head)
         now = int(clock[1]) if clock else 0
         self.allocations = []

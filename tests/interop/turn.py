@@ -6,7 +6,7 @@ import struct
 COOKIE = 0x2112A442
 ALLOCATE, REFRESH, PERMIT, BIND, SEND, DATA = 0x0003, 0x0004, 0x0008, 0x0009, 0x0016, 0x0017
 ERROR_CODE, CHANNEL_NUMBER, LIFETIME, PEER, DATA_ATTR, RELAYED = 0x0009, 0x000C, 0x000D, 0x0012, 0x0013, 0x0016
-FAMILY, EVEN_PORT, TRANSPORT, MAPPED, TOKEN = 0x0017, 0x0018, 0x0019, 0x0020, 0x0022
+TRANSPORT, MAPPED = 0x0019, 0x0020
 
 
 class TurnError(Exception):
@@ -90,12 +90,14 @@ class Client:
             raise TurnError(code[2] * 100 + code[3], found)
         return found
 
-    def allocate(self, *wanted):
-        found = self.request(ALLOCATE, attribute(TRANSPORT, bytes([17, 0, 0, 0])), *wanted)
+    def allocate(self, lifetime=None):
+        wanted = [attribute(TRANSPORT, bytes([17, 0, 0, 0]))]
+        if lifetime is not None:
+            wanted.append(attribute(LIFETIME, struct.pack("!I", lifetime)))
+        found = self.request(ALLOCATE, *wanted)
         self.relayed = read_address(found[RELAYED], self.transaction)
         self.mapped = read_address(found[MAPPED], self.transaction)
         self.lifetime = struct.unpack("!I", found[LIFETIME])[0]
-        self.token = found.get(TOKEN)
         return self.relayed
 
     def refresh(self, lifetime):

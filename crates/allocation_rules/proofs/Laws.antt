@@ -1,8 +1,9 @@
 -- Laws of a repeat, of the lifetime granted and of the search for a port.
 use Prim.Native.Nat.{ℕ, suc, ◌+◌, ◌-◌, ◌%◌, ◌≤◌, ◌<◌, min, max}
 use mathlib.Core.Path.{◌≡◌, sym, ap, ◌∙◌}
-use mathlib.Core.Bool.{Bool, true, false, not}
+use mathlib.Core.Bool.{Bool, true, false}
 use mathlib.Core.List.{List}
+use lib.ListN.{get_or}
 use native.Mathlib.Omega.{arith}
 use lib.Dec.{eqb}
 use Rattle.choice.specs.Choice.{pick}
@@ -11,9 +12,7 @@ use Rattle.stun.specs.declared.values.NumberValue.{NumberValue}
 use Rattle.stun.specs.declared.values.NumberValue.TheVariants.{Number, WrongLength, Absent}
 use Rattle.slot.specs.declared.Slot.{Slot}
 use Rattle.rules.specs.declared.requests.ClientCall.{ClientCall}
-use Rattle.hold.specs.declared.PortWanted.{PortWanted}
-use Rattle.allocation_rules.specs.declared.ports.GivenPort.{GivenPort}
-use Rattle.allocation_rules.specs.Allocations.{repeats, first_free, port_for, taken_for, searched_port, granted, granted_refresh}
+use Rattle.allocation_rules.specs.Allocations.{repeats, first_free, granted, granted_refresh}
 
 -- ---- A repeat is of a 5-tuple that has a live slot
 pub repeats_own : (call : ClientCall) (s : List ℕ) (own : Bool) (slot : Slot) → repeats call s own slot ≡ true → own ≡ true
@@ -36,27 +35,27 @@ granted_refresh_small WrongLength = omega arith
 granted_refresh_small Absent = omega arith
 
 -- ---- The search for a free port: i are looked at, and all of them are held
-pub record Tried (taken : ℕ → Bool) (start answer i : ℕ) : Type 0 where
-  pub is : answer ≡ first_free (128 - i) taken (start + i)
+pub record Tried (held : List Bool) (start answer i : ℕ) : Type 0 where
+  pub is : answer ≡ first_free (128 - i) held (start + i)
   pub le : i ≤ 128
 
-pub tried_none : (taken : ℕ → Bool) (start : ℕ) → Tried taken start (first_free 128 taken start) 0
-tried_none taken start = record { is = ap (first_free 128 taken) (let z : start ≡ start + 0 = omega arith in z); le = omega arith }
+pub tried_none : (held : List Bool) (start : ℕ) → Tried held start (first_free 128 held start) 0
+tried_none held start = record { is = ap (first_free 128 held) (let z : start ≡ start + 0 = omega arith in z); le = omega arith }
 
-module _ (taken : ℕ → Bool) {start answer i : ℕ} (l : Tried taken start answer i) where
-  told_port : i < 128 → answer ≡ pick (taken ((start + i) % 128)) (first_free (128 - (i + 1)) taken (start + (i + 1))) ((start + i) % 128)
+module _ {held : List Bool} {start answer i : ℕ} (l : Tried held start answer i) where
+  told_port : i < 128 → answer ≡ pick (get_or held ((start + i) % 128) false) (first_free (128 - (i + 1)) held (start + (i + 1))) ((start + i) % 128)
   unfolding first_free
   told_port h =
       let e : 128 - i ≡ suc (128 - (i + 1)) = omega arith in
       let n : suc (start + i) ≡ start + (i + 1) = omega arith in
       (rw e at l.is)
-      ∙ ap (λ (x : ℕ). pick (taken ((start + i) % 128)) (first_free (128 - (i + 1)) taken x) ((start + i) % 128)) n
+      ∙ ap (λ (x : ℕ). pick (get_or held ((start + i) % 128) false) (first_free (128 - (i + 1)) held x) ((start + i) % 128)) n
 
   module _ {k : ℕ} (h : i < 128) (e : k ≡ (start + i) % 128) where
-    pub tried_more : taken k ≡ true → Tried taken start answer (i + 1)
+    pub tried_more : get_or held k false ≡ true → Tried held start answer (i + 1)
     tried_more t = record { is = rw (rw e at t) at (told_port h); le = omega arith }
 
-    pub tried_free : taken k ≡ false → k ≡ answer
+    pub tried_free : get_or held k false ≡ false → k ≡ answer
     tried_free t = e ∙ sym (rw (rw e at t) at (told_port h))
 
   pub tried_all : 128 ≤ i → start % 128 ≡ answer
@@ -65,12 +64,3 @@ module _ (taken : ℕ → Bool) {start answer i : ℕ} (l : Tried taken start an
       let e : 128 - i ≡ 0 = omega arith in
       let m : start % 128 ≡ (start + i) % 128 = omega arith in
       m ∙ sym (rw e at l.is)
-
--- the port that was found, and that it was; or that none was
-module _ (wanted : PortWanted) (held : List Bool) (start : ℕ) {k : ℕ} {found : Bool} {port : ℕ} (e : k ≡ first_free 128 (taken_for wanted held) start) where
-  pub searched_is : found ≡ not (taken_for wanted held k) → port ≡ 49152 + k → ◌≡◌ {A = GivenPort} (record { found = found; port = port }) (searched_port wanted held start)
-  unfolding searched_port port_for
-  searched_is f p =
-      let g : found ≡ not (taken_for wanted held (first_free 128 (taken_for wanted held) start)) = f ∙ ap (λ (j : ℕ). not (taken_for wanted held j)) e in
-      let q : port ≡ 49152 + first_free 128 (taken_for wanted held) start = p ∙ ap (◌+◌ 49152) e in
-      λ i. record { found = g i; port = q i }

@@ -1,26 +1,19 @@
--- Document 01's Allocate and Refresh, with request 1's repeated Allocate and request 4's even ports: the checks with their codes in order, the
--- lifetime granted, the port, and what the accepted request does to its slot. What the looks over the table and the holds found comes as an
--- argument.
-use Rattle.std.specs.Prelude.{ℕ, zero, suc, ◌+◌, ◌-◌, ◌%◌, ◌^◌, min, max, Bool, true, false, not, List, eqb, leb, get_or}
-use Rattle.choice.specs.Choice.{pick, both, either}
+-- Document 01's Allocate and Refresh, with request 1's repeated Allocate: the checks with their codes in order, the lifetime granted, the port,
+-- and what the accepted request does to its slot. What the look over the table found comes as an argument.
+use Rattle.std.specs.Prelude.{ℕ, zero, suc, ◌+◌, ◌-◌, ◌%◌, ◌^◌, min, max, Bool, false, not, List, eqb, leb, get_or}
+use Rattle.choice.specs.Choice.{pick, both}
 use Rattle.address.specs.declared.TransactionId.{TransactionId}
 use Rattle.address.specs.Address.{same_transaction_id}
 use Rattle.stun.specs.declared.kinds.Method.TheVariants.{Allocate, Refresh}
 use Rattle.stun.specs.declared.values.NumberValue.{NumberValue}
 use Rattle.stun.specs.declared.values.NumberValue.TheVariants.{Number, WrongLength, Absent}
-use Rattle.stun.specs.declared.values.TokenValue.{TokenValue}
-use Rattle.stun.specs.declared.values.TokenValue.TheVariants.{Token, TokenWrongLength, TokenAbsent}
-use Rattle.stun.specs.Values.{transaction_id_of, even_port, reservation_token}
-use Rattle.messages.specs.declared.Reservation.{Reservation}
+use Rattle.stun.specs.Values.{transaction_id_of}
 use Rattle.messages.specs.Messages.{allocate_success, refresh_success}
 use Rattle.slot.specs.declared.Allocation.{Allocation}
 use Rattle.slot.specs.declared.Slot.{Slot}
 use Rattle.slot.specs.Slot.{fresh_slot, with_allocation, with_transaction_id}
-use Rattle.hold.specs.declared.PortWanted.{PortWanted}
-use Rattle.hold.specs.declared.PortWanted.TheVariants.{AnyPort, EvenPort, EvenPair, HeldPort}
 use Rattle.rules.specs.declared.requests.ClientCall.{ClientCall}
 use Rattle.allocation_rules.specs.declared.Room.{Room}
-use Rattle.allocation_rules.specs.declared.ports.GivenPort.{GivenPort}
 use Rattle.rules.specs.Change.{Out, Change, keep, write, to_client, check, respond}
 use Rattle.rules.specs.Values.{lifetime, requested_family, requested_transport, missing, wrong_length, other_than}
 use Rattle.rules.specs.Requests.{request_code, own_code}
@@ -31,38 +24,9 @@ use Rattle.rules.specs.Requests.{request_code, own_code}
 unfoldable pub repeats : ClientCall → List ℕ → Bool → Slot → Bool
 repeats call s own slot = both own (both (same_transaction_id slot.transaction_id (transaction_id_of s)) (eqb slot.allocation.user call.user))
 
--- ---- Request 4: the port that an Allocate asks for
-
-abbrev pub token_given : TokenValue → Bool
-token_given (Token token) = true
-token_given TokenWrongLength = false
-token_given TokenAbsent = false
-
-abbrev pub wrong_token_length : TokenValue → Bool
-wrong_token_length (Token token) = false
-wrong_token_length TokenWrongLength = true
-wrong_token_length TokenAbsent = false
-
-abbrev pub by_token : TokenValue → PortWanted
-by_token (Token token) = HeldPort token
-by_token TokenWrongLength = AnyPort
-by_token TokenAbsent = AnyPort
-
--- 'EVEN-PORT (0x0018, 1 byte, top bit R)'
-abbrev pub wanted_by : NumberValue → TokenValue → PortWanted
-wanted_by (Number byte) token = pick (leb 128 byte) EvenPair EvenPort
-wanted_by WrongLength token = by_token token
-wanted_by Absent token = by_token token
-
-unfoldable pub port_wanted : List ℕ → PortWanted
-port_wanted s = wanted_by (even_port s) (reservation_token s)
-
--- ---- The checks
-
 -- 'live allocation for the 5-tuple 437; REQUESTED-TRANSPORT missing or not 4 bytes 400; not 17 442; REQUESTED-ADDRESS-FAMILY not 4 bytes 400;
 -- not 1 440; LIFETIME not 4 bytes 400; user holds 8 or more live allocations 486; no slot that isn't live 508.' Request 1: a repeat
--- is no error, and nothing after it is looked at. Request 4: 'after the LIFETIME check: wrong length 400; both attributes 400; token with a family 400;
--- after 486: no port, no room for a hold, a token already held, or unknown or lapsed token 508'
+-- is no error, and nothing after it is looked at
 unfoldable pub allocate_code : ClientCall → List ℕ → (again : Bool) → Room → ℕ
 allocate_code call s again room =
     request_code call s
@@ -73,41 +37,18 @@ allocate_code call s again room =
     (check (wrong_length (requested_family s)) 400
     (check (other_than 1 (requested_family s)) 440
     (check (wrong_length (lifetime s)) 400
-    (check (wrong_length (even_port s)) 400
-    (check (wrong_token_length (reservation_token s)) 400
-    (check (both (token_given (reservation_token s)) (not (missing (even_port s)))) 400
-    (check (both (token_given (reservation_token s)) (not (missing (requested_family s)))) 400
     (check (leb 8 room.held) 486
     (check (not room.free) 508
-    (check (not room.found) 508
-    (check (not room.holdable) 508
-    0)))))))))))))))
+    0)))))))))
 
--- ---- The port
+-- 'Its port is 49152 + k, where k is the first of start, start + 1, and on (remainders by 128) whose port no live slot holds.'
+unfoldable pub first_free : ℕ → List Bool → ℕ → ℕ
+first_free zero held k = k % 128
+first_free (suc tries) held k = pick (get_or held (k % 128) false) (first_free tries held (suc k)) (k % 128)
 
--- 'Its port is 49152 + k, where k is the first of start, start + 1, and on (remainders by 128) whose port no live slot holds.' `taken` says of each
--- k whether its port is not to be given
-unfoldable pub first_free : ℕ → (taken : ℕ → Bool) → ℕ → ℕ
-first_free zero taken k = k % 128
-first_free (suc tries) taken k = pick (taken (k % 128)) (first_free tries taken (suc k)) (k % 128)
-
--- 128 tries come to every port
-unfoldable pub port_for : (taken : ℕ → Bool) → ℕ → ℕ
-port_for taken start = 49152 + first_free 128 taken start
-
--- request 4: 'EVEN-PORT takes the first free even port from the start; with R the first whose next port is free too'. `held` says of each of the 128
--- ports whether a live slot or a live hold has it
-abbrev pub taken_for : PortWanted → (held : List Bool) → ℕ → Bool
-taken_for AnyPort held k = get_or held k false
-taken_for EvenPort held k = either (eqb (k % 2) 1) (get_or held k false)
-taken_for EvenPair held k = either (eqb (k % 2) 1) (either (get_or held k false) (get_or held (k + 1) false))
-taken_for (HeldPort token) held k = get_or held k false
-
--- the first port that is to be given to who asks so, and whether there is one
-unfoldable pub searched_port : PortWanted → (held : List Bool) → (start : ℕ) → GivenPort
-searched_port wanted held start =
-    let taken = taken_for wanted held in
-    record { found = not (taken (first_free 128 taken start)); port = port_for taken start }
+-- held says of each of the 128 ports whether a live slot holds it; there are fewer slots than ports, so 128 tries find a free one
+unfoldable pub port_for : List Bool → ℕ → ℕ
+port_for held start = 49152 + first_free 128 held start
 
 -- 'Lifetime granted: absent 600; else the smaller of the value and 3600, but not below 600.'
 abbrev pub granted : NumberValue → ℕ
@@ -122,28 +63,26 @@ allocated call id port seconds =
     let allocation : Allocation = record { user = call.user; five_tuple = call.five_tuple; port = port; expiry = call.time + seconds } in
     with_transaction_id (with_allocation fresh_slot allocation) id
 
--- 'Reply: XOR-RELAYED-ADDRESS 0x0016, LIFETIME, XOR-MAPPED-ADDRESS 0x0020 (the client).' Request 4: 'the token, which goes into the reply after LIFETIME'
-abbrev pub allocate_reply : ClientCall → List ℕ → (port seconds : ℕ) → Reservation → Out
-allocate_reply call s port seconds reservation =
-    to_client call.five_tuple (allocate_success (transaction_id_of s) call.relay port seconds reservation call.five_tuple.client)
+-- 'Reply: XOR-RELAYED-ADDRESS 0x0016, LIFETIME, XOR-MAPPED-ADDRESS 0x0020 (the client).'
+abbrev pub allocate_reply : ClientCall → List ℕ → (port seconds : ℕ) → Out
+allocate_reply call s port seconds = to_client call.five_tuple (allocate_success (transaction_id_of s) call.relay port seconds call.five_tuple.client)
 
 -- request 1: 'the seconds left, at most 2^32 - 1'
 unfoldable pub seconds_left : (time expiry : ℕ) → ℕ
 seconds_left time expiry = min (expiry - time) (2 ^ 32 - 1)
 
--- a repeat 'gets the success reply again, with the stored port and the seconds left ..; nothing in the slot changes'. Request 4: it 'carries the
--- token again while the hold lives'
-abbrev pub told_again : ClientCall → List ℕ → Reservation → Slot → Change
-told_again call s again slot = keep (allocate_reply call s slot.allocation.port (seconds_left call.time slot.allocation.expiry) again)
+-- a repeat 'gets the success reply again, with the stored port and the seconds left ..; nothing in the slot changes'
+abbrev pub told_again : ClientCall → List ℕ → Slot → Change
+told_again call s slot = keep (allocate_reply call s slot.allocation.port (seconds_left call.time slot.allocation.expiry))
 
-abbrev pub newly_made : ClientCall → List ℕ → (port seconds : ℕ) → Reservation → Change
-newly_made call s port seconds made = write (allocated call (transaction_id_of s) port seconds) (allocate_reply call s port seconds made)
+abbrev pub newly_made : ClientCall → List ℕ → (port seconds : ℕ) → Change
+newly_made call s port seconds = write (allocated call (transaction_id_of s) port seconds) (allocate_reply call s port seconds)
 
 unfoldable pub allocate : ClientCall → List ℕ → Room → Slot → Change
 allocate call s room slot =
     let again = repeats call s room.own slot in
     respond call.five_tuple Allocate s (allocate_code call s again room)
-    (pick again (told_again call s room.again slot) (newly_made call s room.port (granted (lifetime s)) room.made))
+    (pick again (told_again call s slot) (newly_made call s room.port (granted (lifetime s))))
 
 -- ---- Refresh
 

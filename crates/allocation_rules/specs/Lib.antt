@@ -1,2 +1,1 @@
 pub mod Allocations
-pub mod Inner

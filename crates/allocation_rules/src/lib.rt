@@ -1,29 +1,23 @@
 // Allocate and Refresh, by value: from a lent datagram and what the look over the table found, the outcome, the slot and the reply.
 ghost use Rattle.std.specs.Prelude.{◌≡◌, ◌≤◌, ◌^◌, length};
 ghost use Rattle.rules.specs.Inner.{Gives, Answers};
-ghost use Rattle.rules.specs.Values.{requested_family};
-ghost use Rattle.allocation_rules.specs.Inner.{room_code, port_code};
 ghost use Rattle.allocation_rules.specs.Allocations.{repeats, allocate_code, allocated, allocate_reply, allocate, refresh_code, renewed, refreshed, refresh};
 
 use address::{TransactionId, same_transaction_id};
 use choice::both;
 use lifetimes::{granted, granted_refresh, seconds_left};
-use messages::{Reservation, put_allocate_success, put_refresh_success};
-use ports::{token_given, wrong_token_length};
+use messages::{put_allocate_success, put_refresh_success};
 use rules::answer::{Answer, Outcome, check, respond_error};
 use rules::requests::{ClientCall, own_code, request_code};
 use rules::values::{missing, other_than, wrong_length};
 use slot::{Allocation, Slot, fresh_slot, with_allocation, with_transaction_id};
 use stun::kinds::Method;
-use stun::values::{
-    NumberValue, even_port, lifetime, requested_address_family, requested_transport,
-    reservation_token, transaction_id,
-};
+use stun::values::{lifetime, requested_address_family, requested_transport, transaction_id};
 
 pub mod lifetimes;
 pub mod ports;
 
-// What Allocate asks of the whole table and of the holds.
+// What Allocate asks of the whole table.
 #[derive(Drop)]
 pub struct Room {
     // The 5-tuple has a live slot.
@@ -32,15 +26,8 @@ pub struct Room {
     pub held: usize,
     // Some slot is not live.
     pub free: bool,
-    // There is a port such as is asked for, and that one is what a new allocation gets.
-    pub found: bool,
+    // The port that a new allocation gets.
     pub port: u16,
-    // The next port can be held, where that is asked.
-    pub holdable: bool,
-    // The token that a new hold gets, where one is to be made.
-    pub made: Reservation,
-    // The token of the hold that this very Allocate made.
-    pub again: Reservation,
 }
 
 // Whether an Allocate is that which made the slot, come again: of the same transaction and user.
@@ -54,43 +41,16 @@ fn repeats(s: &[u8], call: ClientCall, own: bool, slot: Slot) -> bool
     both(own, both(same, allocation.user == call.user))
 }
 
-// The checks after LIFETIME's that leave an Allocate without a slot or a port.
-fn room_code(room: Room) -> u16
-    ensures { (result ≡ room_code room) × (result ≤ 699) }
-{
-    let port = check(!room.found, 508, check(!room.holdable, 508, 0));
-    check(8 <= room.held, 486, check(!room.free, 508, port))
-}
-
-// The checks after LIFETIME's: of EVEN-PORT and RESERVATION-TOKEN, and then of the room.
-fn port_code(s: &[u8], family: NumberValue, room: Room) -> u16
-    requires { family ≡ requested_family s.now }
-    ensures { (result ≡ port_code s.now room) × (result ≤ 699) }
-{
-    let even = even_port(s);
-    let token = reservation_token(s);
-    let given = token_given(token);
-    let clash = check(
-        both(given, !missing(even)),
-        400,
-        check(both(given, !missing(family)), 400, room_code(room)),
-    );
-    check(
-        wrong_length(even),
-        400,
-        check(wrong_token_length(token), 400, clash),
-    )
-}
-
 fn allocate_code(s: &[u8], call: ClientCall, again: bool, room: Room) -> u16
     ensures { (result ≡ allocate_code call s.now again room) × (result ≤ 699) }
 {
     let transport = requested_transport(s);
     let family = requested_address_family(s);
+    let full = check(8 <= room.held, 486, check(!room.free, 508, 0));
     let values = check(
         other_than(1, family),
         440,
-        check(wrong_length(lifetime(s)), 400, port_code(s, family, room)),
+        check(wrong_length(lifetime(s)), 400, full),
     );
     let rest = check(
         other_than(17, transport),
@@ -117,21 +77,14 @@ fn allocated(call: ClientCall, id: TransactionId, port: u16, seconds: u32) -> Sl
 }
 
 // The success response to an Allocate.
-fn give_allocated(
-    s: &[u8],
-    reply: &mut [u8],
-    call: ClientCall,
-    port: u16,
-    seconds: u32,
-    reservation: Reservation,
-) -> Outcome
+fn give_allocated(s: &[u8], reply: &mut [u8], call: ClientCall, port: u16, seconds: u32) -> Outcome
     requires { (20 ≤ length s.now) × (1536 ≤ length reply.old) }
-    ensures { Gives (allocate_reply call s.now port seconds reservation) reply.old reply.new result }
+    ensures { Gives (allocate_reply call s.now port seconds) reply.old reply.new result }
 {
     let id = transaction_id(s);
     let five_tuple = call.five_tuple;
     let client = five_tuple.client;
-    let len = put_allocate_success(reply, id, call.relay, port, seconds, reservation, client);
+    let len = put_allocate_success(reply, id, call.relay, port, seconds, client);
     Outcome::ToClient { five_tuple, len }
 }
 
@@ -150,16 +103,14 @@ pub fn allocate(s: &[u8], reply: &mut [u8], call: ClientCall, room: Room, was: S
     if again {
         let stored = was.allocation;
         let left = seconds_left(call.time, stored.expiry);
-        let held = room.again;
         return Answer {
-            outcome: give_allocated(s, reply, call, stored.port, left, held),
+            outcome: give_allocated(s, reply, call, stored.port, left),
             writes: false,
             slot: was,
         };
     }
     let slot = allocated(call, transaction_id(s), room.port, seconds);
-    let made = room.made;
-    let outcome = give_allocated(s, reply, call, room.port, seconds, made);
+    let outcome = give_allocated(s, reply, call, room.port, seconds);
     Answer {
         outcome,
         writes: true,

@@ -11,10 +11,6 @@ unfoldable pub both : Bool → Bool → Bool
 both true b = b
 both false b = false
 
--- whether one or the other holds
-abbrev pub either : Bool → Bool → Bool
-either a b = pick a true b
-
 -- whether a test holds of some member
 unfoldable pub any : {X : Type 0} → (X → Bool) → List X → Bool
 any test [] = false

@@ -11,12 +11,11 @@ use Rattle.wire.specs.Wire.{bytes_of, part_of}
 use Rattle.address.specs.declared.TransportAddress.{TransportAddress}
 use Rattle.address.specs.declared.TransactionId.{TransactionId}
 use Rattle.stun.specs.declared.kinds.Method.{Method}
-use Rattle.messages.specs.declared.Reservation.{Reservation}
 use Rattle.messages.specs.Messages.{padding, allocate_success, refresh_success, bare_success, data_indication, channel_data}
 use Rattle.client_reader.specs.declared.Message.{Message}
 use Rattle.client_reader.specs.declared.Message.TheVariants.{AllocateSuccess, RefreshSuccess, BareSuccess, Error, UnknownAttributes, DataIndication, ChannelData, Nothing}
 use Rattle.client_reader.specs.declared.ReadMessage.{ReadMessage}
-use Rattle.client_reader.specs.Fields.{written_of, written, no_types, IdFits, AddressFits, ReservationFits, IsBare, RangesOf, InRange, IsMessage, Bytes, plain, nothing, Exact}
+use Rattle.client_reader.specs.Fields.{written_of, written, no_types, IdFits, AddressFits, IsBare, RangesOf, InRange, IsMessage, Bytes, plain, nothing, Exact}
 use Rattle.client_reader.specs.Inner.{when, fields_of, same_bytes, checked}
 use Rattle.client_reader.specs.Reader.{message_in}
 use Rattle.client_reader.proofs.Same.{bytes_same, same_bytes_lem}
@@ -28,7 +27,7 @@ use Rattle.client_reader.proofs.Ranges.{in_range}
 
 -- a reader gives a message or none
 message_or_none : (message : Message) → (message ≡ Nothing) ⊎ (message ≡ Nothing → ⊥)
-message_or_none (AllocateSuccess id relay port seconds reservation client) = inr (λ e. let z : ◌≡◌ {A = ℕ} 0 1 = cc in omega arith)
+message_or_none (AllocateSuccess id relay port seconds client) = inr (λ e. let z : ◌≡◌ {A = ℕ} 0 1 = cc in omega arith)
 message_or_none (RefreshSuccess id seconds) = inr (λ e. let z : ◌≡◌ {A = ℕ} 0 1 = cc in omega arith)
 message_or_none (BareSuccess method id) = inr (λ e. let z : ◌≡◌ {A = ℕ} 0 1 = cc in omega arith)
 message_or_none (Error method id code) = inr (λ e. let z : ◌≡◌ {A = ℕ} 0 1 = cc in omega arith)
@@ -65,8 +64,8 @@ no_types_lem {message} e = λ i. record { message = message; types = sym e i }
 -- the fields of a message come back from its bytes
 back : (s : List ℕ) (message : Message) (types : List ℕ) → (message ≡ Nothing → ⊥) → RangesOf message types s
     → fields_of (written_of message types s) ≡ record { message = message; types = types }
-back s (AllocateSuccess id relay port seconds reservation client) types is r =
-    allocate_back id r.0 relay port seconds r.1 r.2 r.3 reservation r.4 client.address client.port r.5 r.6 ∙ no_types_lem r.7
+back s (AllocateSuccess id relay port seconds client) types is r =
+    allocate_back id r.0 relay port seconds r.1 r.2 r.3 client.address client.port r.4 r.5 ∙ no_types_lem r.6
 back s (RefreshSuccess id seconds) types is r = refresh_back id r.0 seconds r.1 ∙ no_types_lem r.2
 back s (BareSuccess method id) types is r = bare_back id r.0 method r.1 ∙ no_types_lem r.2
 back s (Error method id code) types is r = error_back id r.0 method code r.1 r.2 r.3 ∙ no_types_lem r.4
@@ -158,12 +157,11 @@ channel_data_lem number payload = part_within (channel_data number payload) 4 (l
 -- ---- What a success is read as
 
 module _ (id : TransactionId) (h : IdFits id) where
-  pub read_allocate : (relay port seconds : ℕ) (reservation : Reservation) (client : TransportAddress) → relay < 2 ^ 32 → port < 2 ^ 16 → seconds < 2 ^ 32
-      → ReservationFits reservation → AddressFits client.address → client.port < 2 ^ 16
-      → message_in (allocate_success id relay port seconds reservation client) ≡ plain (AllocateSuccess id relay port seconds reservation client)
-  read_allocate relay port seconds reservation client hr hp hs ht ha hq =
-      read_by (allocate_success id relay port seconds reservation client)
-      (allocate_back id h relay port seconds hr hp hs reservation ht client.address client.port ha hq) refl
+  pub read_allocate : (relay port seconds : ℕ) (client : TransportAddress) → relay < 2 ^ 32 → port < 2 ^ 16 → seconds < 2 ^ 32
+      → AddressFits client.address → client.port < 2 ^ 16
+      → message_in (allocate_success id relay port seconds client) ≡ plain (AllocateSuccess id relay port seconds client)
+  read_allocate relay port seconds client hr hp hs ha hq =
+      read_by (allocate_success id relay port seconds client) (allocate_back id h relay port seconds hr hp hs client.address client.port ha hq) refl
 
   pub read_refresh : (seconds : ℕ) → seconds < 2 ^ 32 → message_in (refresh_success id seconds) ≡ plain (RefreshSuccess id seconds)
   read_refresh seconds hs = read_by (refresh_success id seconds) (refresh_back id h seconds hs) refl

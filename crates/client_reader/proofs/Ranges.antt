@@ -12,7 +12,7 @@ use borrow.Author.Tests.{leb-true, eqb-false}
 use Rattle.wire.specs.Wire.{num}
 use Rattle.wire.proofs.Laws.{xor_lt}
 use Rattle.choice.specs.Choice.{pick, both}
-use Rattle.choice.proofs.Laws.{chosen, both_parts}
+use Rattle.choice.proofs.Laws.{both_parts}
 use Rattle.stun.specs.declared.kinds.Method.{Method}
 use Rattle.stun.specs.declared.kinds.Method.TheVariants.{Allocate, Refresh, CreatePermission, ChannelBind}
 use Rattle.stun.specs.declared.kinds.MessageKind.{MessageKind}
@@ -20,14 +20,12 @@ use Rattle.stun.specs.declared.kinds.MessageKind.TheVariants as Kind
 use Rattle.stun.specs.declared.values.AddressValue.{AddressValue}
 use Rattle.stun.specs.Kinds.{message_kind_of}
 use Rattle.stun.specs.Values.{transaction_id_of, address_at, v4_at, v6_at, malformed}
-use Rattle.messages.specs.declared.Reservation.{Reservation}
-use Rattle.messages.specs.declared.Reservation.TheVariants.{Token, NoToken}
 use Rattle.client_reader.proofs.Around.{num_lt}
 use Rattle.client_reader.proofs.Types.{length_types_from, all_below_lem}
 use Rattle.client_reader.specs.declared.ReadMessage.{ReadMessage}
-use Rattle.client_reader.specs.Fields.{Bytes, IdFits, AddressFits, ReservationFits, TypesInRange, DataInRange, plain, InRange}
+use Rattle.client_reader.specs.Fields.{Bytes, IdFits, AddressFits, TypesInRange, DataInRange, InRange}
 use Rattle.slot.specs.Slot.{is_channel_number}
-use Rattle.client_reader.specs.Inner.{when, fields_of, has_token, allocate_of, allocate_fields, refresh_fields, bare_fields, types_from, types_of, all_below, count_fits, unknown_fields, code_of, plain_error_fields, error_fields, data_fits, indication_fields, channel_fields, stun_fields}
+use Rattle.client_reader.specs.Inner.{when, fields_of, allocate_fields, refresh_fields, bare_fields, types_from, types_of, all_below, count_fits, unknown_fields, code_of, plain_error_fields, error_fields, data_fits, indication_fields, channel_fields, stun_fields}
 
 module _ (s : List ℕ) (h : Bytes s) where
   abbrev Fits : ReadMessage → Type 0
@@ -64,16 +62,10 @@ module _ (s : List ℕ) (h : Bytes s) where
       )
       go false false = (lit< tt, lit< tt)
 
-  allocated_fits : (reservation : Reservation) (mapped : ℕ) → ReservationFits reservation → Fits (plain (allocate_of s reservation mapped))
-  allocated_fits reservation mapped r =
-      let client = address_fits mapped (length s - mapped) in
-      (id_fits, xor_fits 28 4 0x2112_a442 (lit< tt), xor_fits 26 2 0x2112 (lit< tt), num_lt s h 36 4, r, client.0, client.1, refl)
-
   allocate_fits : Fits (allocate_fields s)
   unfolding allocate_fields
-  allocate_fits =
-      when_fits (leb 44 (length s)) _ (λ t.
-      chosen Fits (has_token s) (λ b. allocated_fits (Token (num s 44 8)) 56 (num_lt s h 44 8)) (λ b. allocated_fits NoToken 44 tt))
+  allocate_fits = when_fits (leb 44 (length s)) _
+      (λ t. (id_fits, xor_fits 28 4 0x2112_a442 (lit< tt), xor_fits 26 2 0x2112 (lit< tt), num_lt s h 36 4, (address_fits 44 (length s - 44)).0, (address_fits 44 (length s - 44)).1, refl))
 
   refresh_fits : Fits (refresh_fields s)
   unfolding refresh_fields

@@ -1,5 +1,5 @@
 -- The fields of each message come back from its bytes.
-use Prim.Native.Nat.{ℕ, ◌+◌, ◌-◌, ◌*◌, ◌/◌, ◌%◌, ◌^◌, ◌≤◌, ◌<◌}
+use Prim.Native.Nat.{ℕ, ◌+◌, ◌*◌, ◌/◌, ◌%◌, ◌^◌, ◌≤◌, ◌<◌}
 use mathlib.Core.Path.{◌≡◌, refl, ap, ◌∙◌}
 use mathlib.Core.List.{List, [], ◌++◌}
 use mathlib.Core.Bool.{true}
@@ -14,7 +14,6 @@ use Rattle.choice.specs.Choice.{both}
 use Rattle.choice.proofs.Laws.{both_true}
 use Rattle.address.specs.declared.Address.{Address}
 use Rattle.address.specs.declared.Address.TheVariants.{V4, V6}
-use Rattle.address.specs.declared.TransportAddress.{TransportAddress}
 use Rattle.address.specs.declared.TransactionId.{TransactionId}
 use Rattle.stun.specs.declared.kinds.Method.{Method}
 use Rattle.stun.specs.declared.kinds.Method.TheVariants.{Allocate, Refresh, CreatePermission, ChannelBind}
@@ -22,24 +21,15 @@ use Rattle.stun.specs.declared.kinds.MessageKind.{MessageKind}
 use Rattle.stun.specs.declared.kinds.MessageKind.TheVariants as Kind
 use Rattle.stun.specs.Kinds.{message_kind_of, error_type}
 use Rattle.stun.specs.Values.{transaction_id_of, address_at, v4_at, v6_at}
-use Rattle.messages.specs.declared.Reservation.{Reservation}
-use Rattle.messages.specs.declared.Reservation.TheVariants.{Token, NoToken}
 use Rattle.messages.specs.Messages.{message_bytes, padding, address_attribute, data_attribute, error_code_attribute, unknown_attribute, types_bytes, allocate_success, refresh_success, bare_success, error_response, unknown_response, data_indication, channel_data}
 use Rattle.messages.proofs.Laws.{length_first_types}
 use Rattle.client_reader.proofs.Types.{types_append, types_back, below_all}
 use Rattle.client_reader.specs.declared.Message.TheVariants.{AllocateSuccess, RefreshSuccess, BareSuccess, Error, UnknownAttributes, DataIndication, ChannelData}
-use Rattle.client_reader.specs.Fields.{IdFits, AddressFits, ReservationFits, IsBare, TypesInRange, plain}
-use Rattle.client_reader.specs.Inner.{fields_of, allocate_of, allocate_fields, refresh_fields, bare_fields, code_of, types_from, types_of, count_fits, unknown_fields, plain_error_fields, error_fields, indication_fields, channel_fields, stun_fields, data_fits}
+use Rattle.client_reader.specs.Fields.{IdFits, AddressFits, IsBare, TypesInRange, plain}
+use Rattle.client_reader.specs.Inner.{fields_of, allocate_fields, refresh_fields, bare_fields, code_of, types_from, types_of, count_fits, unknown_fields, plain_error_fields, error_fields, indication_fields, channel_fields, stun_fields, data_fits}
 
--- a number that was XORed with a key, read back
-abbrev unxored : (w n key : ℕ) → ℕ
-unxored w n key = bit_xor (num (bytes_of w (bit_xor n key)) 0 w) key
-
--- a word that was XORed with another word of the message, read back
-abbrev unmasked : (n key : ℕ) → ℕ
-unmasked n key = bit_xor (num (bytes_of 4 (bit_xor n key)) 0 4) (num (bytes_of 4 key) 0 4)
-
-xor_back : (n key : ℕ) → n < 2 ^ 32 → key < 2 ^ 32 → unmasked n key ≡ n
+-- a word that is XORed with another word of the message
+xor_back : (n key : ℕ) → n < 2 ^ 32 → key < 2 ^ 32 → bit_xor (num (bytes_of 4 (bit_xor n key)) 0 4) (num (bytes_of 4 key) 0 4) ≡ n
 unfolding num bytes_of
 xor_back n key h k =
     ap (bit_xor (num (bytes_of 4 (bit_xor n key)) 0 4)) (num-written 4 key [] k) ∙ xor_written 4 n key [] h k
@@ -57,47 +47,27 @@ module _ (id : TransactionId) (h : IdFits id) where
   unfolding transaction_id_of message_bytes num bytes_of
   id_of type body = id_back
 
-  -- the client's address, read from its bytes
-  v4_back : (a p : ℕ) → a < 2 ^ 32 → p < 2 ^ 16
-      → ◌≡◌ {A = TransportAddress} (record { address = V4 (unxored 4 a 0x2112_a442); port = unxored 2 p 0x2112 }) (record { address = V4 a; port = p })
-  unfolding num bytes_of
-  v4_back a p ha hq = λ i. record { address = V4 (xor_written 4 a 0x2112_a442 [] ha (lit< tt) i); port = xor_written 2 p 0x2112 [] hq (lit< tt) i }
-
-  v6_back : (a b c d p : ℕ) → AddressFits (V6 a b c d) → p < 2 ^ 16
-      → ◌≡◌ {A = TransportAddress}
-      (record { address = V6 (unxored 4 a 0x2112_a442) (unmasked b id.high) (unmasked c id.middle) (unmasked d id.low); port = unxored 2 p 0x2112 })
-      (record { address = V6 a b c d; port = p })
-  unfolding num bytes_of
-  v6_back a b c d p ha hq = λ i. record {
-    address = V6 (xor_written 4 a 0x2112_a442 [] ha.0 (lit< tt) i)
-        (xor_back b id.high ha.1 h.0 i) (xor_back c id.middle ha.2 h.1 i) (xor_back d id.low ha.3 h.2 i);
-    port = xor_written 2 p 0x2112 [] hq (lit< tt) i;
-  }
-
   module _ (relay port seconds : ℕ) (hr : relay < 2 ^ 32) (hp : port < 2 ^ 16) (hs : seconds < 2 ^ 32) where
-    -- a success of Allocate, where the reservation and the client's address come back
-    allocated_back : (reservation : Reservation) (client : TransportAddress) (mapped : ℕ) {r : Reservation} → r ≡ reservation
-        → (address_at (allocate_success id relay port seconds reservation client) mapped (length (allocate_success id relay port seconds reservation client) - mapped)).peer ≡ client
-        → plain (allocate_of (allocate_success id relay port seconds reservation client) r mapped) ≡ plain (AllocateSuccess id relay port seconds reservation client)
-    unfolding allocate_success transaction_id_of num bytes_of
-    allocated_back reservation client mapped e m = λ i. plain (AllocateSuccess
+    pub allocate_back : (address : Address) (p : ℕ) → AddressFits address → p < 2 ^ 16
+        → fields_of (allocate_success id relay port seconds (record { address = address; port = p }))
+        ≡ plain (AllocateSuccess id relay port seconds (record { address = address; port = p }))
+    unfolding fields_of allocate_fields allocate_success transaction_id_of address_at v4_at v6_at both num bytes_of
+    allocate_back (V4 a) p ha hq = λ i. plain (AllocateSuccess
         (id_back i)
         (xor_written 4 relay 0x2112_a442 [] hr (lit< tt) i)
         (xor_written 2 port 0x2112 [] hp (lit< tt) i)
         (num-written 4 seconds [] hs i)
-        (e i)
-        (m i))
-
-    pub allocate_back : (reservation : Reservation) → ReservationFits reservation → (address : Address) (p : ℕ) → AddressFits address → p < 2 ^ 16
-        → fields_of (allocate_success id relay port seconds reservation (record { address = address; port = p }))
-        ≡ plain (AllocateSuccess id relay port seconds reservation (record { address = address; port = p }))
-    unfolding fields_of allocate_fields allocate_success transaction_id_of address_at v4_at v6_at both num bytes_of
-    allocate_back NoToken ht (V4 a) p ha hq = allocated_back NoToken (record { address = V4 a; port = p }) 44 refl (v4_back a p ha hq)
-    allocate_back NoToken ht (V6 a b c d) p ha hq = allocated_back NoToken (record { address = V6 a b c d; port = p }) 44 refl (v6_back a b c d p ha hq)
-    allocate_back (Token token) ht (V4 a) p ha hq =
-        allocated_back (Token token) (record { address = V4 a; port = p }) 56 (ap Token (num-written 8 token [] ht)) (v4_back a p ha hq)
-    allocate_back (Token token) ht (V6 a b c d) p ha hq =
-        allocated_back (Token token) (record { address = V6 a b c d; port = p }) 56 (ap Token (num-written 8 token [] ht)) (v6_back a b c d p ha hq)
+        (record { address = V4 (xor_written 4 a 0x2112_a442 [] ha (lit< tt) i); port = xor_written 2 p 0x2112 [] hq (lit< tt) i }))
+    allocate_back (V6 a b c d) p ha hq = λ i. plain (AllocateSuccess
+        (id_back i)
+        (xor_written 4 relay 0x2112_a442 [] hr (lit< tt) i)
+        (xor_written 2 port 0x2112 [] hp (lit< tt) i)
+        (num-written 4 seconds [] hs i)
+        (record {
+          address = V6 (xor_written 4 a 0x2112_a442 [] ha.0 (lit< tt) i)
+              (xor_back b id.high ha.1 h.0 i) (xor_back c id.middle ha.2 h.1 i) (xor_back d id.low ha.3 h.2 i);
+          port = xor_written 2 p 0x2112 [] hq (lit< tt) i;
+        }))
 
   pub refresh_back : (seconds : ℕ) → seconds < 2 ^ 32 → fields_of (refresh_success id seconds) ≡ plain (RefreshSuccess id seconds)
   unfolding fields_of refresh_fields refresh_success transaction_id_of both num bytes_of

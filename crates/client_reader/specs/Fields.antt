@@ -8,8 +8,6 @@ use Rattle.address.specs.declared.Address.TheVariants.{V4, V6}
 use Rattle.address.specs.declared.TransactionId.{TransactionId}
 use Rattle.stun.specs.declared.kinds.Method.{Method}
 use Rattle.stun.specs.declared.kinds.Method.TheVariants.{Allocate, Refresh, CreatePermission, ChannelBind}
-use Rattle.messages.specs.declared.Reservation.{Reservation}
-use Rattle.messages.specs.declared.Reservation.TheVariants.{Token, NoToken}
 use Rattle.messages.specs.Messages.{allocate_success, refresh_success, bare_success, error_response, unknown_response, data_indication, channel_data}
 use Rattle.client_reader.specs.declared.Message.{Message}
 use Rattle.client_reader.specs.declared.Message.TheVariants.{AllocateSuccess, RefreshSuccess, BareSuccess, Error, UnknownAttributes, DataIndication, ChannelData, Nothing}
@@ -19,7 +17,7 @@ use Rattle.client_reader.specs.declared.ReadMessage.{ReadMessage}
 
 -- what the fields of a message make; its data, len bytes from start on, lies in the bytes s that it was read from
 abbrev pub written_of : Message → List ℕ → List ℕ → List ℕ
-written_of (AllocateSuccess id relay port seconds reservation client) types s = allocate_success id relay port seconds reservation client
+written_of (AllocateSuccess id relay port seconds client) types s = allocate_success id relay port seconds client
 written_of (RefreshSuccess id seconds) types s = refresh_success id seconds
 written_of (BareSuccess method id) types s = bare_success method id
 written_of (Error method id code) types s = error_response method id code
@@ -33,7 +31,7 @@ written m s = written_of m.message m.types s
 
 -- the data that a message shows, a part of the bytes s that it was read from; other messages show none
 abbrev pub data_of : Message → List ℕ → List ℕ
-data_of (AllocateSuccess id relay port seconds reservation client) s = []
+data_of (AllocateSuccess id relay port seconds client) s = []
 data_of (RefreshSuccess id seconds) s = []
 data_of (BareSuccess method id) s = []
 data_of (Error method id code) s = []
@@ -50,11 +48,6 @@ IdFits id = (id.high < 2 ^ 32) × (id.middle < 2 ^ 32) × (id.low < 2 ^ 32)
 abbrev pub AddressFits : Address → Type 0
 AddressFits (V4 a) = a < 2 ^ 32
 AddressFits (V6 a b c d) = (a < 2 ^ 32) × (b < 2 ^ 32) × (c < 2 ^ 32) × (d < 2 ^ 32)
-
--- request 4: the token is '8 bytes'
-abbrev pub ReservationFits : Reservation → Type 0
-ReservationFits (Token token) = token < 2 ^ 64
-ReservationFits NoToken = Unit
 
 -- 'CreatePermission and ChannelBind succeed with a bare 20-byte header.'
 abbrev pub IsBare : Method → Type 0
@@ -84,8 +77,8 @@ pub record DataInRange (first start len : ℕ) (s : List ℕ) : Type 0 where
 -- 'Fields: relayed and peer addresses IPv4, codes 300 to 699, with 420 alone one to 16 types below 0x8000, channels 0x4000 to 0x4FFF, all else free.'
 -- What is free still fits the bytes that it stands in.
 abbrev pub RangesOf : Message → List ℕ → List ℕ → Type 0
-RangesOf (AllocateSuccess id relay port seconds reservation client) types s =
-    IdFits id × (relay < 2 ^ 32) × (port < 2 ^ 16) × (seconds < 2 ^ 32) × ReservationFits reservation × AddressFits client.address × (client.port < 2 ^ 16) × (types ≡ no_types)
+RangesOf (AllocateSuccess id relay port seconds client) types s =
+    IdFits id × (relay < 2 ^ 32) × (port < 2 ^ 16) × (seconds < 2 ^ 32) × AddressFits client.address × (client.port < 2 ^ 16) × (types ≡ no_types)
 RangesOf (RefreshSuccess id seconds) types s = IdFits id × (seconds < 2 ^ 32) × (types ≡ no_types)
 RangesOf (BareSuccess method id) types s = IdFits id × IsBare method × (types ≡ no_types)
 RangesOf (Error method id code) types s = IdFits id × (300 ≤ code) × (code ≤ 699) × (code ≡ 420 → ⊥) × (types ≡ no_types)

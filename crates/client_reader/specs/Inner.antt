@@ -11,8 +11,6 @@ use Rattle.stun.specs.declared.kinds.MessageKind.TheVariants as Kind
 use Rattle.stun.specs.AttributeNumbers as attribute
 use Rattle.stun.specs.Kinds.{cookie, cookie_high, data_type, message_kind_of}
 use Rattle.stun.specs.Values.{transaction_id_of, address_at}
-use Rattle.messages.specs.declared.Reservation.{Reservation}
-use Rattle.messages.specs.declared.Reservation.TheVariants.{Token, NoToken}
 use Rattle.slot.specs.Slot.{is_channel_number}
 use Rattle.client_reader.specs.declared.Message.{Message}
 use Rattle.client_reader.specs.declared.Message.TheVariants.{AllocateSuccess, RefreshSuccess, BareSuccess, Error, UnknownAttributes, DataIndication, ChannelData}
@@ -25,21 +23,11 @@ when test m = pick test m nothing
 
 -- ---- The fields at their places
 
--- XOR-RELAYED-ADDRESS stands at 20, LIFETIME at 32, the value of each 4 bytes further on; the value of XOR-MAPPED-ADDRESS starts at mapped
-abbrev pub allocate_of : List ℕ → Reservation → ℕ → Message
-allocate_of s reservation mapped =
-    AllocateSuccess (transaction_id_of s) (bit_xor (num s 28 4) cookie) (bit_xor (num s 26 2) cookie_high) (num s 36 4) reservation (address_at s mapped (length s - mapped)).peer
-
--- whether RESERVATION-TOKEN stands at 40, with room behind it for the head of XOR-MAPPED-ADDRESS
-unfoldable pub has_token : List ℕ → Bool
-has_token s = both (leb 56 (length s)) (eqb (num s 40 2) attribute.reservation_token)
-
--- XOR-MAPPED-ADDRESS stands at 52 where there is a token, else at 40
+-- XOR-RELAYED-ADDRESS stands at 20, LIFETIME at 32, XOR-MAPPED-ADDRESS at 40, the value of each 4 bytes further on
 unfoldable pub allocate_fields : List ℕ → ReadMessage
-unfolding has_token
 allocate_fields s =
     when (leb 44 (length s))
-    (pick (has_token s) (plain (allocate_of s (Token (num s 44 8)) 56)) (plain (allocate_of s NoToken 44)))
+    (plain (AllocateSuccess (transaction_id_of s) (bit_xor (num s 28 4) cookie) (bit_xor (num s 26 2) cookie_high) (num s 36 4) (address_at s 44 (length s - 44)).peer))
 
 -- LIFETIME stands at 20
 unfoldable pub refresh_fields : List ℕ → ReadMessage

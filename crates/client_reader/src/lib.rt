@@ -9,7 +9,6 @@ ghost use Rattle.client_reader.specs.Fields.{plain, nothing, Exact};
 ghost use Rattle.client_reader.specs.Inner.{when, checked, stun_fields};
 
 use address::{TransactionId, TransportAddress};
-use messages::Reservation;
 use slot::channels::is_channel_number;
 use stun::kinds::{MessageKind, Method};
 use wire::u16_at;
@@ -22,7 +21,6 @@ pub enum Message {
         relay: u32,
         port: u16,
         seconds: u32,
-        reservation: Reservation,
         client: TransportAddress,
     },
     RefreshSuccess {

@@ -1,54 +1,19 @@
 // Success and error responses: the fields at their places, written, and compared with the bytes.
 ghost use Rattle.std.specs.Prelude.{◌≡◌, ◌+◌, ◌*◌, ◌≤◌, ◌<◌, length};
-ghost use Rattle.client_reader.specs.Fields.{plain};
-ghost use Rattle.client_reader.specs.Inner.{checked, has_token, allocate_of, allocate_fields, refresh_fields, bare_fields, success_fields, types_of, all_below, count_fits, unknown_of, unknown_fields, code_of, plain_error_fields, error_fields};
+ghost use Rattle.client_reader.specs.Inner.{checked, allocate_fields, refresh_fields, bare_fields, success_fields, types_of, all_below, count_fits, unknown_of, unknown_fields, code_of, plain_error_fields, error_fields};
 
 use crate::{Message, ReadMessage, nothing, plain, read_if};
 use check::same;
 use choice::both;
 use messages::{
-    Reservation, put_allocate_success, put_bare_success, put_error_response, put_refresh_success,
+    put_allocate_success, put_bare_success, put_error_response, put_refresh_success,
     put_unknown_response,
 };
 use stun::kinds::{AttributeKind, Method};
 use stun::values::{address_at, transaction_id};
-use wire::{u8_at, u16_at, u32_at, u64_at, xor_u16, xor_u32};
+use wire::{u8_at, u16_at, u32_at, xor_u16, xor_u32};
 
 // ---- Success
-
-// Whether RESERVATION-TOKEN stands behind LIFETIME, with room behind it for the head of XOR-MAPPED-ADDRESS.
-fn has_token(s: &[u8]) -> bool
-    requires { 44 ≤ length s.now }
-    ensures { result ≡ has_token s.now }
-{
-    both(
-        56 <= s.len(),
-        u16_at(s, 40) == AttributeKind::RESERVATION_TOKEN,
-    )
-}
-
-// A success of Allocate with this reservation, where the value of XOR-MAPPED-ADDRESS starts at a place.
-fn allocated(s: &[u8], reservation: Reservation, mapped: usize) -> ReadMessage
-    requires { (44 ≤ mapped) × (mapped ≤ length s.now) }
-    ensures { result ≡ checked (plain (allocate_of s.now reservation mapped)) s.now }
-{
-    let id = transaction_id(s);
-    let relay = xor_u32(u32_at(s, 28), stun::COOKIE);
-    let port = xor_u16(u16_at(s, 26), stun::COOKIE_HIGH);
-    let seconds = u32_at(s, 36);
-    let client = address_at(s, mapped, s.len() - mapped).peer;
-    let mut made = [0u8; 1536];
-    let n = put_allocate_success(&mut made, id, relay, port, seconds, reservation, client);
-    let message = Message::AllocateSuccess {
-        id,
-        relay,
-        port,
-        seconds,
-        reservation,
-        client,
-    };
-    read_if(same(&made[..n], s), plain(message))
-}
 
 fn allocate_success(s: &[u8]) -> ReadMessage
     ensures { result ≡ checked (allocate_fields s.now) s.now }
@@ -56,11 +21,21 @@ fn allocate_success(s: &[u8]) -> ReadMessage
     if s.len() < 44 {
         return nothing();
     }
-    if has_token(s) {
-        let token = u64_at(s, 44);
-        return allocated(s, Reservation::Token(token), 56);
-    }
-    allocated(s, Reservation::NoToken, 44)
+    let id = transaction_id(s);
+    let relay = xor_u32(u32_at(s, 28), stun::COOKIE);
+    let port = xor_u16(u16_at(s, 26), stun::COOKIE_HIGH);
+    let seconds = u32_at(s, 36);
+    let client = address_at(s, 44, s.len() - 44).peer;
+    let mut made = [0u8; 1536];
+    let n = put_allocate_success(&mut made, id, relay, port, seconds, client);
+    let message = Message::AllocateSuccess {
+        id,
+        relay,
+        port,
+        seconds,
+        client,
+    };
+    read_if(same(&made[..n], s), plain(message))
 }
 
 fn refresh_success(s: &[u8]) -> ReadMessage

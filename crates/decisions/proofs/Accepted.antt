@@ -69,10 +69,8 @@ module _ (call : ClientCall) (s : List ℕ) (slot : Slot) (out : Out) where
     pub new : seen.own ≡ false
     pub quota : leb 8 seen.held ≡ false
     pub room : seen.free ≡ true
-    pub found : seen.found ≡ true
-    pub holdable : seen.holdable ≡ true
     pub slot_is : slot ≡ allocated call (transaction_id_of s) seen.port (granted (lifetime s))
-    pub out_is : out ≡ allocate_reply call s seen.port (granted (lifetime s)) seen.made
+    pub out_is : out ≡ allocate_reply call s seen.port (granted (lifetime s))
 
   -- only one that is no repeat writes a slot
   not_repeated : (again : Bool) (rest : ℕ) (reply out' : Out) (made : Slot) → check again 0 rest ≡ 0 → pick again (keep reply) (write made out') ≡ write slot out
@@ -92,23 +90,9 @@ module _ (call : ClientCall) (s : List ℕ) (slot : Slot) (out : Out) where
       let length-family = passed _ 400 _ (some (omega arith)) transport.1 in
       let family = passed _ 440 _ (some (omega arith)) length-family.1 in
       let length-lifetime = passed _ 400 _ (some (omega arith)) family.1 in
-      let length-even = passed _ 400 _ (some (omega arith)) length-lifetime.1 in
-      let length_token = passed _ 400 _ (some (omega arith)) length-even.1 in
-      let even-and-token = passed _ 400 _ (some (omega arith)) length_token.1 in
-      let token-and-family = passed _ 400 _ (some (omega arith)) even-and-token.1 in
-      let held = passed (leb 8 seen.held) 486 _ (some (omega arith)) token-and-family.1 in
-      let free = passed (not seen.free) 508 _ (some (omega arith)) held.1 in
-      let found = passed (not seen.found) 508 _ (some (omega arith)) free.1 in
-      let holdable = passed (not seen.holdable) 508 0 (some (omega arith)) found.1 in
-      record {
-        new = own.0;
-        quota = held.0;
-        room = not-false _ free.0;
-        found = not-false _ found.0;
-        holdable = not-false _ holdable.0;
-        slot_is = cc;
-        out_is = cc;
-      }
+      let held = passed (leb 8 seen.held) 486 _ (some (omega arith)) length-lifetime.1 in
+      let free = passed (not seen.free) 508 0 (some (omega arith)) held.1 in
+      record { new = own.0; quota = held.0; room = not-false _ free.0; slot_is = cc; out_is = cc }
 
   module _ (own : Bool) (was : Slot) where
     -- ---- Refresh: a new expiry, or a fresh slot

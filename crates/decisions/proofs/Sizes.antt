@@ -62,9 +62,9 @@ module _ (call : ClientCall) (s : List ℕ) where
   unfolding allocate
   allocate_fits room slot = respond_fits _ _ s _ _ (go (repeats call s room.own slot))
     where
-      go : (again : Bool) → Fits s (out_of (pick again (told_again call s room.again slot) (newly_made call s room.port (granted (lifetime s)) room.made)))
-      go true = allocate_small (transaction_id_of s) _ _ _ _ _
-      go false = allocate_small (transaction_id_of s) _ _ _ _ _
+      go : (again : Bool) → Fits s (out_of (pick again (told_again call s slot) (newly_made call s room.port (granted (lifetime s)))))
+      go true = allocate_small (transaction_id_of s) _ _ _ _
+      go false = allocate_small (transaction_id_of s) _ _ _ _
 
   pub refresh_fits : (own : Bool) (slot : Slot) → Fits s (out_of (refresh call s own slot))
   unfolding refresh

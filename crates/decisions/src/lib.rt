@@ -4,12 +4,14 @@ ghost use Rattle.table.specs.Inner.{place_of};
 ghost use Rattle.slot.specs.Search.{has};
 ghost use Rattle.slot.specs.Slot.{fresh_slot};
 ghost use Rattle.interface.specs.declared.incoming.Call.TheVariants.{Client, Peer};
-ghost use Rattle.rules.specs.declared.answer.Outcome.TheVariants.{Refused, DroppedOther};
+ghost use Rattle.rules.specs.declared.answer.Outcome.TheVariants.{DroppedOther};
+ghost use Rattle.decisions.specs.declared.client.Asked.TheVariants as AskedIs;
 ghost use Rattle.decisions.specs.Client.{asked_by};
 ghost use Rattle.decisions.specs.Decisions.{as_rules, asks_denied, on_asked, decided};
-ghost use Rattle.decisions.specs.Inner.{ReadyClient, ReadyPeer, Ready, asked_for, asking_of, allocates, is_data, wanted_by, saw, unwritten, Answering, is_answered};
+ghost use Rattle.decisions.specs.Inner.{ReadyClient, ReadyPeer, Ready, UserFits, asked_for, asking_of, allocates, is_data, wanted_by, saw, place_in, unwritten, Answering};
 
-use allocation_rules::refresh;
+use allocation_rules::ports::port_for;
+use allocation_rules::{allocate, refresh};
 use client::{Asked, asked_by};
 use data_rules::{relay_from_peer, send, send_channel_data};
 use interface::incoming::{Call, FromClient, FromPeer};
@@ -22,14 +24,11 @@ use slot::{Slot, fresh_slot, has};
 use table::keys::{Key, Wanted};
 use table::surveys::{Survey, place_of};
 
-pub mod allocations;
 pub mod client;
 
-// Whether an allocation is to be made: that alone asks for more than one slot.
-pub fn allocates(asking: Asking) -> bool
-    ensures { result ≡ allocates asking.asked }
+fn allocates(asked: Asked) -> bool
+    ensures { result ≡ allocates asked }
 {
-    let asked = asking.asked;
     match asked {
         Asked::Allocate => true,
         Asked::Refresh => false,
@@ -83,9 +82,11 @@ pub fn asking_of(nodes: &[u16; 1536], datagram: &[u8], call: Call) -> Asking
 }
 
 // What the look over the slots is for.
-pub fn wanted_by(call: Call) -> Wanted
-    ensures { result ≡ wanted_by call }
+pub fn wanted_by(call: Call, asking: Asking) -> Wanted
+    requires { UserFits call }
+    ensures { result ≡ wanted_by call asking.asked }
 {
+    let asked = asking.asked;
     match call {
         Call::Client(c) => {
             let five_tuple = c.five_tuple;
@@ -93,9 +94,8 @@ pub fn wanted_by(call: Call) -> Wanted
             Wanted {
                 time: c.time,
                 key,
-                room: false,
-                user: 0,
-                port: 0,
+                room: allocates(asked),
+                user: c.user as u8,
             }
         }
         Call::Peer(p) => {
@@ -105,7 +105,6 @@ pub fn wanted_by(call: Call) -> Wanted
                 key,
                 room: false,
                 user: 0,
-                port: 0,
             }
         }
     }
@@ -139,7 +138,7 @@ pub fn finds_none(seen: Seen) -> bool
     !has(own)
 }
 
-// The place of the slot that was found: it is read, and written where the request changes it.
+// The place of the slot that was found.
 pub fn own_place(seen: Seen) -> usize
     ensures { result ≡ place_of seen.survey.own }
 {
@@ -148,8 +147,22 @@ pub fn own_place(seen: Seen) -> usize
     place_of(own)
 }
 
+// The place of the slot that is written: the lowest that isn't live for Allocate, the caller's own for every other request.
+pub fn place_for(seen: Seen) -> usize
+    ensures { result ≡ place_in seen }
+{
+    let asked = seen.asked;
+    let survey = seen.survey;
+    if allocates(asked) {
+        let free = survey.free;
+        return place_of(free);
+    }
+    let own = survey.own;
+    place_of(own)
+}
+
 // A client's call as the rules take it.
-pub(crate) fn client_call(call: FromClient) -> ClientCall
+fn client_call(call: FromClient) -> ClientCall
     requires { call.user ≤ 32 }
     ensures { result ≡ as_rules call }
 {
@@ -163,6 +176,29 @@ pub(crate) fn client_call(call: FromClient) -> ClientCall
 }
 
 // ---- The answers. `own` is the slot that was found, or a fresh one where none was.
+
+// An Allocate, with what it asks of the whole table.
+fn answer_allocate(
+    datagram: &[u8],
+    reply: &mut [u8],
+    call: FromClient,
+    survey: Survey,
+    own: Slot,
+) -> Answer
+    requires { ReadyClient call datagram.now reply.old × (20 ≤ length datagram.now) }
+    ensures { Answering (Client call) AskedIs.Allocate (λ slots. (on_asked false call datagram.now slots AskedIs.Allocate).change) survey own reply.old reply.new result }
+{
+    let found = survey.own;
+    let free = survey.free;
+    let ports = survey.ports;
+    let asked = allocation_rules::Room {
+        own: has(found),
+        held: survey.held,
+        free: has(free),
+        port: port_for(ports, call.start),
+    };
+    allocate(datagram, reply, client_call(call), asked, own)
+}
 
 // Nothing passes, and no slot is written.
 fn answer_dropped(own: Slot) -> Answer
@@ -184,7 +220,7 @@ fn pass_client(
     own: Slot,
 ) -> Outcome
     requires { (call.user ≤ 32) × (asked ≡ asked_by datagram.now) }
-    ensures { is_data asked ≡ true → ((denied : Bool) (reply : List ℕ) → Answering (Client call) (λ holds slots. (on_asked denied holds call datagram.now slots asked).change) survey own reply reply (unwritten result own)) }
+    ensures { is_data asked ≡ true → ((denied : Bool) (reply : List ℕ) → Answering (Client call) asked (λ slots. (on_asked denied call datagram.now slots asked).change) survey own reply reply (unwritten result own)) }
 {
     let found = survey.own;
     match asked {
@@ -207,7 +243,7 @@ fn pass_peer(
     own: Slot,
 ) -> Outcome
     requires { ReadyPeer call datagram.now reply.old }
-    ensures { Answering (Peer call) (λ holds slots. (decided false holds (Peer call) datagram.now slots).change) survey own reply.old reply.new (unwritten result own) }
+    ensures { Answering (Peer call) AskedIs.Nothing (λ slots. (decided false (Peer call) datagram.now slots).change) survey own reply.old reply.new (unwritten result own) }
 {
     let found = survey.own;
     relay_from_peer(
@@ -240,7 +276,7 @@ pub fn is_data(seen: Seen) -> bool
 // What data does: a slot is neither written nor passed on.
 pub fn pass_data(datagram: &[u8], reply: &mut [u8], call: Call, seen: Seen, own: Slot) -> Outcome
     requires { (Ready call datagram.now reply.old × (seen.asked ≡ asked_for call datagram.now)) × (is_data seen.asked ≡ true) }
-    ensures { Answering call (λ holds slots. (decided seen.denied holds call datagram.now slots).change) seen.survey own reply.old reply.new (unwritten result own) }
+    ensures { Answering call seen.asked (λ slots. (decided seen.denied call datagram.now slots).change) seen.survey own reply.old reply.new (unwritten result own) }
 {
     let asked = seen.asked;
     let survey = seen.survey;
@@ -250,7 +286,7 @@ pub fn pass_data(datagram: &[u8], reply: &mut [u8], call: Call, seen: Seen, own:
     }
 }
 
-// A client's request other than Allocate, or data for which no slot was found: that is dropped.
+// A client's request, or data for which no slot was found: that is dropped.
 fn answer_client(
     datagram: &[u8],
     reply: &mut [u8],
@@ -260,12 +296,12 @@ fn answer_client(
     survey: Survey,
     own: Slot,
 ) -> Answer
-    requires { (ReadyClient call datagram.now reply.old × (asked ≡ asked_by datagram.now)) × ((is_data asked ≡ true → has survey.own ≡ false) × (allocates asked ≡ false)) }
-    ensures { Answering (Client call) (λ holds slots. (on_asked denied holds call datagram.now slots asked).change) survey own reply.old reply.new result }
+    requires { (ReadyClient call datagram.now reply.old × (asked ≡ asked_by datagram.now)) × (is_data asked ≡ true → has survey.own ≡ false) }
+    ensures { Answering (Client call) asked (λ slots. (on_asked denied call datagram.now slots asked).change) survey own reply.old reply.new result }
 {
     let found = survey.own;
     match asked {
-        Asked::Allocate => answer_dropped(own),
+        Asked::Allocate => answer_allocate(datagram, reply, call, survey, own),
         Asked::Refresh => refresh(datagram, reply, client_call(call), has(found), own),
         Asked::CreatePermission => {
             create_permission(datagram, reply, client_call(call), denied, has(found), own)
@@ -279,10 +315,10 @@ fn answer_client(
     }
 }
 
-// What a call does that is not refused: a request other than Allocate, or data for which no slot was found.
+// What a call does that is not refused: a request, or data for which no slot was found.
 pub fn answer_call(datagram: &[u8], reply: &mut [u8], call: Call, seen: Seen, own: Slot) -> Answer
-    requires { (Ready call datagram.now reply.old × (seen.asked ≡ asked_for call datagram.now)) × ((is_data seen.asked ≡ true → has seen.survey.own ≡ false) × (allocates seen.asked ≡ false)) }
-    ensures { Answering call (λ holds slots. (decided seen.denied holds call datagram.now slots).change) seen.survey own reply.old reply.new result }
+    requires { (Ready call datagram.now reply.old × (seen.asked ≡ asked_for call datagram.now)) × (is_data seen.asked ≡ true → has seen.survey.own ≡ false) }
+    ensures { Answering call seen.asked (λ slots. (decided seen.denied call datagram.now slots).change) seen.survey own reply.old reply.new result }
 {
     let asked = seen.asked;
     let survey = seen.survey;
@@ -294,8 +330,8 @@ pub fn answer_call(datagram: &[u8], reply: &mut [u8], call: Call, seen: Seen, ow
 
 // The same where no slot was found.
 pub fn answer_unfound(datagram: &[u8], reply: &mut [u8], call: Call, seen: Seen) -> Answer
-    requires { (Ready call datagram.now reply.old × (seen.asked ≡ asked_for call datagram.now)) × ((has seen.survey.own ≡ false) × (allocates seen.asked ≡ false)) }
-    ensures { Answering call (λ holds slots. (decided seen.denied holds call datagram.now slots).change) seen.survey fresh_slot reply.old reply.new result }
+    requires { (Ready call datagram.now reply.old × (seen.asked ≡ asked_for call datagram.now)) × (has seen.survey.own ≡ false) }
+    ensures { Answering call seen.asked (λ slots. (decided seen.denied call datagram.now slots).change) seen.survey fresh_slot reply.old reply.new result }
 {
     answer_call(datagram, reply, call, seen, fresh_slot())
 }
@@ -316,34 +352,4 @@ pub fn writes_none(answer: Answer) -> bool
     ensures { result ≡ not answer.writes }
 {
     !answer.writes
-}
-
-// ---- An Allocate is answered after the other calls
-
-// What stands for the outcome of an Allocate that still waits: 0 is the number of no refusal.
-pub fn still_waits() -> Outcome
-    ensures { result ≡ Refused 0 }
-{
-    Outcome::Refused(0)
-}
-
-pub fn is_answered(outcome: Outcome) -> bool
-    ensures { result ≡ is_answered outcome }
-{
-    match outcome {
-        Outcome::Refused(_) => false,
-        Outcome::DroppedLapsed => true,
-        Outcome::DroppedNever => true,
-        Outcome::DroppedOther => true,
-        Outcome::ToClient {
-            five_tuple: _,
-            len: _,
-        } => true,
-        Outcome::ToPeer {
-            port: _,
-            peer: _,
-            start: _,
-            len: _,
-        } => true,
-    }
 }

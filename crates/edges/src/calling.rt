@@ -1,6 +1,6 @@
 // The calls of a line: `Q` of a client and `P` of a peer, with the fields that the call program's lines have after the case's name.
 use crate::fields::{
-    TAB, bytes, field_start, is_there, number, number_u8, number_u16, number_u32, peer, stop, token,
+    TAB, bytes, field_start, number, number_u8, number_u16, number_u32, peer, stop,
 };
 use crate::lent::not_sixty_four;
 use crate::printing::{write, write_byte, write_number, write_outcome};
@@ -11,7 +11,7 @@ use rules::answer::Outcome;
 use slot::fresh_slot;
 
 // What the calls after a `W` line bring besides: how long the reply is, how many slots are lent, the protocol and the server's port of
-// the 5-tuple, how long the datagram is, where that is 0, as long as its bytes, and the eight bytes for a token.
+// the 5-tuple, and how long the datagram is; where that is 0, as long as its bytes.
 #[derive(Drop)]
 pub struct Setting {
     pub reply: usize,
@@ -19,7 +19,6 @@ pub struct Setting {
     pub protocol: u8,
     pub server: u16,
     pub datagram: usize,
-    pub token: u64,
 }
 
 pub(crate) fn usual() -> Setting {
@@ -29,7 +28,6 @@ pub(crate) fn usual() -> Setting {
         protocol: 17,
         server: 3478,
         datagram: 0,
-        token: 0,
     }
 }
 
@@ -40,7 +38,6 @@ pub(crate) fn read_setting(line: &[u8]) -> Setting {
         protocol: number_u8(line, 3),
         server: number_u16(line, 4),
         datagram: number(line, 5) as usize,
-        token: token(line, 6),
     }
 }
 
@@ -54,7 +51,8 @@ pub(crate) fn write_name(line: &[u8]) {
 
 // Whether a line has a name; one without prepares a case.
 fn is_named(line: &[u8]) -> bool {
-    is_there(line, 1)
+    let from = field_start(line, 1);
+    from < stop(line, from, TAB)
 }
 
 // What a reply holds before a call.
@@ -167,7 +165,7 @@ pub(crate) fn from_client(held: Held, setting: Setting, line: &[u8]) -> Held {
     let time = number(line, 2);
     let user = number_u32(line, 3);
     let start = number_u32(line, 4);
-    let call = call_of_client(time, user, start, 0xcb007105, five_tuple, setting.token);
+    let call = call_of_client(time, user, start, 0xcb007105, five_tuple);
     carried(held, setting, call, line, 7)
 }
 

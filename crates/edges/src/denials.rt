@@ -7,7 +7,7 @@ use denied::tree::is_denied;
 use relay::Held;
 use state::{Bookkeeping, Denying, deny};
 
-pub(crate) fn with_bookkeeping(held: Held, bookkeeping: Bookkeeping) -> Held {
+fn with_bookkeeping(held: Held, bookkeeping: Bookkeeping) -> Held {
     let mut made = held;
     made.bookkeeping = bookkeeping;
     made
@@ -46,7 +46,6 @@ pub(crate) fn read(held: Held, line: &[u8]) -> Held {
 // `G` place, number: a number put into the tree, three for each node; from place 1,536 on, in every place.
 pub(crate) fn with_number(held: Held, line: &[u8]) -> Held {
     let kept = held.bookkeeping;
-    let holds = kept.holds;
     let mut denied = kept.denied;
     let place = number(line, 1) as usize;
     let value = number_u16(line, 2);
@@ -60,7 +59,6 @@ pub(crate) fn with_number(held: Held, line: &[u8]) -> Held {
         Bookkeeping {
             clock: kept.clock,
             denied,
-            holds,
         },
     )
 }

@@ -52,12 +52,6 @@ pub(crate) fn letter(line: &[u8]) -> u8 {
     line[0]
 }
 
-// Whether a field has anything in it.
-pub(crate) fn is_there(line: &[u8], k: usize) -> bool {
-    let from = field_start(line, k);
-    from < stop(line, from, TAB)
-}
-
 fn value(read: Parsed) -> u64 {
     match read {
         Parsed::Number(n) => n,
@@ -123,18 +117,6 @@ pub(crate) fn transaction_id(line: &[u8], k: usize) -> TransactionId {
         middle: word(line, from + 8),
         low: word(line, from + 16),
     }
-}
-
-// Eight bytes of 16 hex digits; zero where there are fewer.
-pub(crate) fn token(line: &[u8], k: usize) -> u64 {
-    let from = field_start(line, k);
-    let to = stop(line, from, TAB);
-    if to - from < 16 {
-        return 0;
-    }
-    let high = word(line, from) as u64;
-    let low = word(line, from + 8) as u64;
-    high * 4294967296 + low
 }
 
 // The address in one field and the port in another.

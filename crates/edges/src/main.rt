@@ -4,13 +4,11 @@
 //
 //     Q name, time, user, start, client address, port, bytes     a client's datagram
 //     P name, time, peer address, port, relay port, bytes        a peer's datagram
-//     W reply, slots, protocol, server port, datagram, token     what later calls bring: the lengths of reply and datagram (0: its bytes)
+//     W reply, slots, protocol, server port, datagram            what later calls bring: the lengths of reply and datagram (0: its bytes)
 //     N  /  T clock  /  K  /  B                                  an empty relay; its clock; keep it as it is; go back to the one kept
 //     A place, user, client address, port, relay port, expiry    an allocation put into the table; from place 64 on, in all
 //     E place, entry, address, expiry                            a permission put into a slot; from entry 8 on, in all
 //     C place, entry, number, address, port, expiry              a channel
-//     H place, token, port, expiry, client address, port, id     a port held for a token, without an address by nobody; from place 64 on, in all
-//     O name                                                     the clock, and the holds that are live then
 //     D name, bytes  /  I name, address                          a text of denied prefixes; whether the address is denied
 //     G place, number                                            a number put into the tree of denied prefixes; from place 1536 on, in all
 //     L name, length                                             the listing, in an output of that length
@@ -23,7 +21,6 @@
 mod calling;
 mod denials;
 mod fields;
-mod holds;
 mod lent;
 mod listings;
 mod printing;
@@ -68,10 +65,6 @@ fn show(held: Held, slots: usize, line: &[u8]) {
     }
     if letter == b'I' {
         denials::ask(held, line);
-        return;
-    }
-    if letter == b'O' {
-        holds::show(held, line);
         return;
     }
     showing::show(letter, line);
@@ -121,7 +114,7 @@ fn run(text: &[u8]) {
 }
 
 fn main() {
-    let mut text = [0u8; 196608];
+    let mut text = [0u8; 131072];
     let n = io::read_full(STDIN_FILENO, &mut text);
     run(&text[0..n]);
 }

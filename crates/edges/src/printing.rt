@@ -1,9 +1,8 @@
 // What is printed: numbers, addresses, data, and what a message that goes to a client is by the clients' reader.
-use address::{Address, TransactionId, TransportAddress};
+use address::{Address, TransportAddress};
 use client_reader::{Message, read_message};
 use interface::sending::what_to_send;
 use libc::STDOUT_FILENO;
-use messages::Reservation;
 use rules::answer::Outcome;
 use stun::kinds::Method;
 
@@ -41,17 +40,6 @@ pub(crate) fn write_count(len: usize) {
 
 fn write_word(n: u32) {
     io::print_hex(STDOUT_FILENO, n as u64, 8);
-}
-
-pub(crate) fn write_token(text: &[u8], token: u64) {
-    write(text);
-    io::print_hex(STDOUT_FILENO, token, 16);
-}
-
-pub(crate) fn write_id(id: TransactionId) {
-    write_word(id.high);
-    write_word(id.middle);
-    write_word(id.low);
 }
 
 pub(crate) fn write_address(address: Address) {
@@ -114,17 +102,9 @@ fn write_method(method: Method) {
     }
 }
 
-fn write_reservation(reservation: Reservation) {
-    match reservation {
-        Reservation::Token(token) => write_token(b", token ", token),
-        Reservation::NoToken => {}
-    }
-}
-
-fn write_allocated(port: u16, seconds: u32, reservation: Reservation, client: TransportAddress) {
+fn write_allocated(port: u16, seconds: u32, client: TransportAddress) {
     write_number(b"Allocate success, port ", port as u64);
     write_number(b", seconds ", seconds as u64);
-    write_reservation(reservation);
     write(b", client");
     write_peer(client);
 }
@@ -167,9 +147,8 @@ pub(crate) fn write_message(s: &[u8]) {
             relay: _,
             port,
             seconds,
-            reservation,
             client,
-        } => write_allocated(port, seconds, reservation, client),
+        } => write_allocated(port, seconds, client),
         Message::RefreshSuccess { id: _, seconds } => {
             write_number(b"Refresh success, seconds ", seconds as u64)
         }

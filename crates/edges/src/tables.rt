@@ -1,7 +1,6 @@
 // Tables that are made up.
 use crate::denials::with_number;
 use crate::fields::{address, number, number_u8, number_u16, peer, transaction_id};
-use crate::holds::with_hold;
 use address::{Address, FiveTuple, TransportAddress};
 use relay::Held;
 use rules::answer::Outcome;
@@ -27,12 +26,7 @@ fn at_clock(held: Held, clock: u64) -> Held {
     let mut made = held;
     let kept = held.bookkeeping;
     let denied = kept.denied;
-    let holds = kept.holds;
-    let bookkeeping = Bookkeeping {
-        clock,
-        denied,
-        holds,
-    };
+    let bookkeeping = Bookkeeping { clock, denied };
     made.bookkeeping = bookkeeping;
     made
 }
@@ -119,8 +113,8 @@ fn channel(held: Held, line: &[u8]) -> Held {
     with(held, place, with_channels(slot, channels))
 }
 
-// The table that a line makes: `N` an empty one, `T` with that clock, `A`, `E` and `C` with an allocation, a permission, a channel, `H` with a
-// hold, `G` with a number in the tree of denied prefixes.
+// The table that a line makes: `N` an empty one, `T` with that clock, `A`, `E` and `C` with an allocation, a permission, a channel, `G` with a
+// number in the tree of denied prefixes.
 pub(crate) fn made(held: Held, letter: u8, line: &[u8]) -> Held {
     match letter {
         b'N' => empty(),
@@ -128,7 +122,6 @@ pub(crate) fn made(held: Held, letter: u8, line: &[u8]) -> Held {
         b'A' => allocation(held, line),
         b'E' => permission(held, line),
         b'C' => channel(held, line),
-        b'H' => with_hold(held, line),
         b'G' => with_number(held, line),
         _ => held,
     }

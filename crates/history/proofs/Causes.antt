@@ -16,7 +16,6 @@ use Rattle.history.specs.Statement.{Live, Had, HoldsPort, FromAddress}
 use Rattle.history.specs.Causes.{AllEnded, Overtaken, CausesFrom}
 use Rattle.history.proofs.Readings.{given_holder, given_port, holds→, holds←, had→, had←, ended←, overtaken←}
 use Rattle.history.proofs.Table.{HasPermission, AccountsFor, Known, reach→}
-use Rattle.history.proofs.Held.{HeldFor, held_empty}
 use Rattle.history.proofs.Whole.{Verdict, reaches, shut, nobodys, reached, differ, accounts_empty}
 use Rattle.history.proofs.Demand.{met}
 
@@ -87,18 +86,18 @@ module _ (st : State) (past : List Counted) (I : AccountsFor past st) (a : Arriv
       go le (nobodys q none) = q
 
 -- ---- The theorem
-module _ (first : State) (past : List Counted) (H : HeldFor first) (I : AccountsFor past first) (list : List Event) (last : State) (lived : Lived first list last) where
+module _ (first : State) (past : List Counted) (I : AccountsFor past first) (list : List Event) (last : State) (lived : Lived first list last) where
   pub causes_from : CausesFrom past list
   causes_from = record {
     means = λ before e R x t c C holder.
-        let m = met first past H I list last lived before e c.after c.split in
+        let m = met first past I list last lived before e c.after c.split in
         let nr = rw m.outcome_is at c.not_refused in
         record {
           lapsed = λ q. lapsed_means m.st _ m.accounts e.arrival R x t c.from nr C holder (sym m.outcome_is ∙ q);
           never = λ q. never_means m.st _ m.accounts e.arrival R x t c.from nr C holder (sym m.outcome_is ∙ q);
         };
     other = λ before e R x t c.
-        let m = met first past H I list last lived before e c.after c.split in
+        let m = met first past I list last lived before e c.after c.split in
         let nr = rw m.outcome_is at c.not_refused in (
           λ q C holder. not_other m.st _ m.accounts e.arrival R x t c.from nr C holder (sym m.outcome_is ∙ q),
           λ free. m.outcome_is ∙ is_other m.st _ m.accounts e.arrival R x t c.from nr free,
@@ -107,4 +106,4 @@ module _ (first : State) (past : List Counted) (H : HeldFor first) (I : Accounts
 
 -- from an empty relay
 pub causes : (list : List Event) (last : State) → Lived empty list last → CausesFrom [] list
-causes = causes_from empty [] held_empty accounts_empty
+causes = causes_from empty [] accounts_empty

@@ -78,14 +78,7 @@ module _ (s : List ℕ) where
         (again_step again _
         (step _ 437 _ refl
         (step _ 400 _ refl
-        (step _ 442 _ refl
-        (step _ 400 _ refl
-        (step _ 440 _ refl
-        (step _ 400 _ refl
-        (step _ 400 _ refl
-        (step _ 400 _ refl
-        (step _ 400 _ refl
-        (step _ 400 _ refl (step _ 486 _ refl (step _ 508 _ refl (step _ 508 _ refl (step _ 508 _ refl none)))))))))))))))
+        (step _ 442 _ refl (step _ 400 _ refl (step _ 440 _ refl (step _ 400 _ refl (step _ 486 _ refl (step _ 508 _ refl none)))))))))
 
     pub refresh_coded : (has : Bool) (slot : Slot) → Coded s (refresh_code call s has slot)
     unfolding refresh_code

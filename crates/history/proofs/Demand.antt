@@ -6,7 +6,6 @@ use Rattle.history.specs.Counted.{Counted}
 use Rattle.history.specs.Events.{Arrival, outcome, replied, run, Event, events, Happened, Lived, counted}
 use Rattle.history.specs.Statement.{Demand3From, Demand3}
 use Rattle.history.proofs.Table.{AccountsFor}
-use Rattle.history.proofs.Held.{HeldFor, apart_later, held_empty, lived_held}
 use Rattle.history.proofs.Whole.{accounts_empty, lived_accounts, apart, delivery, nobody}
 
 -- ---- Lists of calls
@@ -48,7 +47,7 @@ lived_is (e ∷ rest) first last l =
     event_is h i = record { arrival = e.arrival; outcome = h.outcome_is i; reply = h.reply_is i }
 
 -- ---- The theorem
-module _ (first : State) (past : List Counted) (H : HeldFor first) (I : AccountsFor past first) (list : List Event) (last : State) (lived : Lived first list last) where
+module _ (first : State) (past : List Counted) (I : AccountsFor past first) (list : List Event) (last : State) (lived : Lived first list last) where
   -- the state that an event of the list met
   pub record Met (before : List Event) (e : Event) : Type 0 where
     pub st : State
@@ -58,12 +57,11 @@ module _ (first : State) (past : List Counted) (H : HeldFor first) (I : Accounts
   pub met : (before : List Event) (e : Event) (after : List Event) → list ≡ before ++ e ∷ after → Met before e
   met before e after split =
       let m = lived_middle before (e ∷ after) first last (rw split at lived) in
-      record { st = m.0; accounts = lived_accounts before first m.0 past m.1 H I; outcome_is = m.2.1.outcome_is }
+      record { st = m.0; accounts = lived_accounts before first m.0 past m.1 I; outcome_is = m.2.1.outcome_is }
 
   pub demand_3_from : Demand3From first past list
   demand_3_from = record {
-    apart = λ before after split st l. apart st (counted past before) (lived_accounts before first st past l H I);
-    held = λ before after split st l t le. apart_later _ t _ _ le (lived_held before first st l H).apart;
+    apart = λ before after split st l. apart st (counted past before) (lived_accounts before first st past l I);
     goes_to = λ before e R x t c C.
         let m = met before e c.after c.split in
         rw m.outcome_is (delivery m.st (counted past before) m.accounts e.arrival R x t c.from (rw m.outcome_is at c.not_refused) C);
@@ -74,4 +72,4 @@ module _ (first : State) (past : List Counted) (H : HeldFor first) (I : Accounts
 
 -- from an empty relay
 pub demand_3 : (list : List Event) (last : State) → Lived empty list last → Demand3 list
-demand_3 = demand_3_from empty [] held_empty accounts_empty
+demand_3 = demand_3_from empty [] accounts_empty

@@ -18,7 +18,6 @@ use Rattle.stun.specs.declared.kinds.Method.{Method}
 use Rattle.stun.specs.declared.values.AddressValue.{AddressValue}
 use Rattle.stun.specs.Values.{peers, first_peer}
 use Rattle.slot.specs.declared.Slot.{Slot}
-use Rattle.hold.specs.declared.Hold.{Hold}
 use Rattle.slot.specs.declared.Permission.{Permission}
 use Rattle.slot.specs.declared.permissions.PermissionState.TheVariants.{Live}
 use Rattle.slot.specs.declared.Channel.{Channel}
@@ -50,9 +49,9 @@ use Rattle.interface.specs.declared.incoming.Call.TheVariants.{Client, Peer}
 use Rattle.interface.specs.declared.incoming.FromClient.{FromClient}
 use Rattle.interface.specs.declared.incoming.FromPeer.{FromPeer}
 use Rattle.interface.specs.Refusals.{time_of}
-use Rattle.state.specs.State.{State, empty, at_time, holds_in, meeting}
+use Rattle.state.specs.State.{State, empty, at_time, meeting}
 use Rattle.state.specs.Outcomes.{Act, refuse, accept, outcome_of, state_after}
-use Rattle.state.specs.Step.{done, decision, holding, accepted, act}
+use Rattle.state.specs.Step.{done, decision, accepted, act}
 use Rattle.state.proofs.Laws.{acted}
 use Rattle.history.specs.Events.{Arrival, met, acts, outcome, Event, Lived}
 use Rattle.history.specs.Statement.{permission_at, channel_at}
@@ -68,7 +67,7 @@ unfolding accepted
 tree_stays st call s reply =
     acted (λ (x : Act). (state_after st x).bookkeeping.denied ≡ st.bookkeeping.denied) st call s reply (λ number. refl) (λ e. go (decision st call s).place (decision st call s).change)
   where
-    go : (found : Found) (change : Change) → (state_after st (done (at_time (time_of call) (holding st call s)) found change)).bookkeeping.denied ≡ st.bookkeeping.denied
+    go : (found : Found) (change : Change) → (state_after st (done (at_time (time_of call) st) found change)).bookkeeping.denied ≡ st.bookkeeping.denied
     go (At k) (keep out) = refl
     go (At k) (write slot out) = refl
     go Nothing change = refl
@@ -126,14 +125,14 @@ module _ (nodes : List ℕ) where
   unfolding renewed
   renewed_clean expiry slot f = record { permissions = f.permissions; channels = f.channels }
 
-  module _ (held : List Hold) (call : FromClient) (s : List ℕ) (l : List Slot) (were : (i : ℕ) → Clean (slot_at l i)) where
+  module _ (call : FromClient) (s : List ℕ) (l : List Slot) (were : (i : ℕ) → Clean (slot_at l i)) where
     own_clean : (found : Found) → Clean (slot_in l found)
     own_clean found = found_keeps Clean fresh_clean found l were
 
-    asked_clean : (asked : Asked) → Writes Clean (on_asked (asks_denied nodes s asked) held call s l asked).change
+    asked_clean : (asked : Asked) → Writes Clean (on_asked (asks_denied nodes s asked) call s l asked).change
     unfolding allocated bound
     asked_clean Asked.Allocate slot out e =
-        rw (allocates (as_rules call) s slot out (room_for call s l held) _ e).slot_is (record { permissions = fresh_clean.permissions; channels = fresh_clean.channels })
+        rw (allocates (as_rules call) s slot out (room_for call l) _ e).slot_is (record { permissions = fresh_clean.permissions; channels = fresh_clean.channels })
     asked_clean Asked.Refresh slot out e =
         rw (refreshes (as_rules call) s slot out _ _ e).slot_is (refreshed_keeps Clean call.time _ _ fresh_clean (renewed_clean _ _ (own_clean _)))
     asked_clean Asked.CreatePermission slot out e =
@@ -146,10 +145,10 @@ module _ (nodes : List ℕ) where
     asked_clean Asked.ChannelData slot out e = kept_not_written e
     asked_clean Asked.Nothing slot out e = kept_not_written e
 
-  decided_clean : (held : List Hold) (call : Call) (s : List ℕ) (l : List Slot) → ((i : ℕ) → Clean (slot_at l i)) → Writes Clean (decided (names_denied nodes call s) held call s l).change
+  decided_clean : (call : Call) (s : List ℕ) (l : List Slot) → ((i : ℕ) → Clean (slot_at l i)) → Writes Clean (decided (names_denied nodes call s) call s l).change
   unfolding decided
-  decided_clean held (Client call) s l were = asked_clean held call s l were (asked_by s)
-  decided_clean held (Peer call) s l were = λ slot out e. kept_not_written e
+  decided_clean (Client call) s l were = asked_clean call s l were (asked_by s)
+  decided_clean (Peer call) s l were = λ slot out e. kept_not_written e
 
   -- ---- What goes out
 
@@ -169,7 +168,7 @@ module _ (nodes : List ℕ) where
   peer_kept : (call : FromPeer) (s : List ℕ) (own : Bool) (slot : Slot) → Clean slot → Kept (Peer call) (relay_from_peer call.time call.source call.id s own slot)
   peer_kept call s own slot f = from_peer_is (Kept (Peer call)) (λ cause. tt) _ _ _ s own slot (permitted_kept call.time call.source slot f)
 
-  module _ (held : List Hold) (call : FromClient) (s : List ℕ) where
+  module _ (call : FromClient) (s : List ℕ) where
     send_kept : (own : Bool) (slot : Slot) → Clean slot → Kept (Client call) (send (as_rules call) s own slot)
     send_kept own slot f =
         send_is (Kept (Client call)) (λ cause. tt) _ s own slot (λ start len e live. permitted_kept call.time (first_peer s).peer slot f live)
@@ -195,20 +194,20 @@ module _ (nodes : List ℕ) where
     allocate_kept room slot =
         response_kept _ _ _ _ (chosen (λ (x : Change). Kept (Client call) (out_of x)) (repeats (as_rules call) s room.own slot) (λ _. tt) (λ _. tt))
 
-    asked_kept : (barred : Bool) (l : List Slot) → ((i : ℕ) → Clean (slot_at l i)) → (asked : Asked) → Kept (Client call) (out_of (on_asked barred held call s l asked).change)
+    asked_kept : (barred : Bool) (l : List Slot) → ((i : ℕ) → Clean (slot_at l i)) → (asked : Asked) → Kept (Client call) (out_of (on_asked barred call s l asked).change)
     unfolding refresh create_permission channel_bind
     asked_kept barred l were Asked.Allocate = allocate_kept _ _
     asked_kept barred l were Asked.Refresh = response_kept _ _ _ _ tt
     asked_kept barred l were Asked.CreatePermission = response_kept _ _ _ _ tt
     asked_kept barred l were Asked.ChannelBind = response_kept _ _ _ _ tt
-    asked_kept barred l were Asked.Send = send_kept _ _ (own_clean held call s l were _)
-    asked_kept barred l were Asked.ChannelData = channelled_kept _ _ (own_clean held call s l were _)
+    asked_kept barred l were Asked.Send = send_kept _ _ (own_clean call s l were _)
+    asked_kept barred l were Asked.ChannelData = channelled_kept _ _ (own_clean call s l were _)
     asked_kept barred l were Asked.Nothing = tt
 
-  decided_kept : (barred : Bool) (held : List Hold) (call : Call) (s : List ℕ) (l : List Slot) → ((i : ℕ) → Clean (slot_at l i)) → Kept call (out_of (decided barred held call s l).change)
+  decided_kept : (barred : Bool) (call : Call) (s : List ℕ) (l : List Slot) → ((i : ℕ) → Clean (slot_at l i)) → Kept call (out_of (decided barred call s l).change)
   unfolding decided
-  decided_kept barred held (Client call) s l were = asked_kept held call s barred l were (asked_by s)
-  decided_kept barred held (Peer call) s l were = peer_kept call s _ _ (found_keeps Clean fresh_clean _ l were)
+  decided_kept barred (Client call) s l were = asked_kept call s barred l were (asked_by s)
+  decided_kept barred (Peer call) s l were = peer_kept call s _ _ (found_keeps Clean fresh_clean _ l were)
 
   -- ---- One call
   abbrev KeptAct : Call → Act → Type 0
@@ -224,8 +223,8 @@ module _ (nodes : List ℕ) where
   unfolding accepted
   act_kept st a were =
       acted (KeptAct a.call) (met st a) a.call a.datagram (length a.reply) (λ number. tt)
-      (λ e. done_kept a.call (at_time (time_of a.call) (holding (met st a) a.call a.datagram)) (decision (met st a) a.call a.datagram).place (decision (met st a) a.call a.datagram).change
-      (decided_kept (names_denied a.denied a.call a.datagram) (holds_in st) a.call a.datagram st.slots were))
+      (λ e. done_kept a.call (at_time (time_of a.call) (met st a)) (decision (met st a) a.call a.datagram).place (decision (met st a) a.call a.datagram).change
+      (decided_kept (names_denied a.denied a.call a.datagram) a.call a.datagram st.slots were))
 
   -- ---- Every list of calls
   lived_clean : (list : List Event) (first last : State) → Lived first list last → AllMeet nodes list → ((i : ℕ) → Clean (slot_at first.slots i))
@@ -233,7 +232,7 @@ module _ (nodes : List ℕ) where
   lived_clean [] first last l m f = rw (← l) f
   lived_clean (e ∷ rest) first last l m f =
       lived_clean rest l.0 last l.2 m.1
-      (rw l.1.state_is (next_keeps Clean first e.arrival f (λ w. rw m.0 (decided_clean (holds_in first) e.arrival.call e.arrival.datagram first.slots f))))
+      (rw l.1.state_is (next_keeps Clean first e.arrival f (λ w. rw m.0 (decided_clean e.arrival.call e.arrival.datagram first.slots f))))
 
   meet_before : (before rest : List Event) → AllMeet nodes (before ++ rest) → AllMeet nodes before
   meet_before [] rest m = tt

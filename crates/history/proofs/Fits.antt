@@ -18,18 +18,16 @@ use Rattle.stun.specs.AttributeNumbers as attribute
 use Rattle.stun.specs.Message.{attributes_from}
 use Rattle.stun.specs.Values.{transaction_id_of, address_at, peers_of, peers_from, peers, head_of, first_peer}
 use Rattle.slot.specs.declared.Slot.{Slot}
-use Rattle.hold.specs.declared.Hold.{Hold}
-use Rattle.hold.specs.Hold.{fresh_hold}
 use Rattle.slot.specs.declared.Found.{Found}
 use Rattle.slot.specs.declared.Found.TheVariants.{At, Nothing}
-use Rattle.slot.specs.Search.{at_or}
+use Rattle.slot.specs.Search.{put_at, at_or}
 use Rattle.slot.specs.Slot.{fresh_permission, fresh_channel, fresh_slot, is_channel_number, permission_entry, permit, channel_entry, bind}
 use Rattle.table.specs.Table.{slot_at}
 use Rattle.decisions.specs.declared.client.Asked.{Asked}
 use Rattle.decisions.specs.declared.client.Asked.TheVariants as Asked
 use Rattle.rules.specs.Change.{Change, keep, write}
 use Rattle.rules.specs.Values.{lifetime}
-use Rattle.allocation_rules.specs.Allocations.{port_wanted, allocated, renewed}
+use Rattle.allocation_rules.specs.Allocations.{allocated, renewed}
 use Rattle.permission_rules.specs.Permissions.{bound}
 use Rattle.decisions.specs.Client.{asked_by}
 use Rattle.rules.proofs.Laws.{kept_not_written}
@@ -38,22 +36,26 @@ use Rattle.allocation_rules.proofs.Laws.{granted_refresh_small}
 use Rattle.interface.specs.declared.incoming.Call.{Call}
 use Rattle.interface.specs.declared.incoming.Call.TheVariants.{Client, Peer}
 use Rattle.interface.specs.declared.incoming.FromClient.{FromClient}
-use Rattle.state.specs.State.{State, empty, clock_of, at_time, holds_in}
+use Rattle.state.specs.State.{State, empty, clock_of, at_time}
 use Rattle.state.specs.Outcomes.{Act, state_after}
 use Rattle.interface.specs.Refusals.{time_of}
 use Rattle.decisions.specs.Decisions.{as_rules, room_for, names_denied, on_asked, decided}
-use Rattle.state.specs.Step.{done, decision, holding, accepted}
+use Rattle.state.specs.Step.{done, decision, accepted}
 use Rattle.state.proofs.Laws.{acted}
 use Rattle.decisions.specs.Inner.{Ready}
 use Rattle.client_reader.specs.Fields.{Bytes, AddressFits}
 use Rattle.client_reader.proofs.Ranges.{address_fits}
 use Rattle.history.specs.Events.{TransportFits, CallFits, Arrival, met, next, Event, Lived}
-use Rattle.history.specs.Statement.{hold_at}
-use Rattle.history.specs.Fits.{PermissionFits, ChannelFits, SlotFits, HoldFits, StateFits}
+use Rattle.history.specs.Fits.{PermissionFits, ChannelFits, SlotFits, StateFits}
 use Rattle.history.proofs.Slots.{place_keeps, found_keeps, MayPermit, permits_keep, refreshed_keeps, Writes, next_keeps}
-use Rattle.history.proofs.FreePort.{given_fits}
-use Rattle.history.proofs.Holds.{length_place, fresh_hold_fits, next_holds_fit, next-holds-length}
+use Rattle.history.proofs.FreePort.{port-fits}
 use Rattle.history.proofs.Replies.{id_fits}
+
+-- ---- An entry written into a list
+length_place : {A : Type 0} (found : Found) (x : A) (l : List A) → length (put_at found x l) ≡ length l
+unfolding put_at
+length_place (At k) x l = length-set l k x
+length_place Nothing x l = refl
 
 -- ---- Fresh
 fresh_fits : SlotFits fresh_slot
@@ -140,8 +142,8 @@ module _ (t : ℕ) (soon : t ≤ 2 ^ 40) where
         channels = f.channels;
       }
 
-module _ (denied : Bool) (held : List Hold) (call : FromClient) (s : List ℕ) (l : List Slot) (fits : CallFits (Client call)) (bytes : Bytes s) (soon : call.time ≤ 2 ^ 40) (user : call.user ≤ 32)
-    (were : (i : ℕ) → SlotFits (slot_at l i)) (fit : (i : ℕ) → HoldFits (hold_at held i)) where
+module _ (denied : Bool) (call : FromClient) (s : List ℕ) (l : List Slot) (fits : CallFits (Client call)) (bytes : Bytes s) (soon : call.time ≤ 2 ^ 40) (user : call.user ≤ 32)
+    (were : (i : ℕ) → SlotFits (slot_at l i)) where
   allocated_fits : (port seconds : ℕ) → port < 2 ^ 16 → seconds ≤ 3600 → SlotFits (allocated (as_rules call) (transaction_id_of s) port seconds)
   unfolding allocated
   allocated_fits port seconds p few = record {
@@ -157,10 +159,10 @@ module _ (denied : Bool) (held : List Hold) (call : FromClient) (s : List ℕ) (
   unfolding is_channel_number
   number_fits number e = let h = leb-true number 0x4fff (both_parts _ _ e).1 in omega arith
 
-  asked_fits : (asked : Asked) → Writes SlotFits (on_asked denied held call s l asked).change
+  asked_fits : (asked : Asked) → Writes SlotFits (on_asked denied call s l asked).change
   unfolding bound
   asked_fits Asked.Allocate slot out e =
-      rw (allocates (as_rules call) s slot out (room_for call s l held) _ e).slot_is (allocated_fits _ _ (given_fits call l held fit (port_wanted s)) (granted_range (lifetime s)).1)
+      rw (allocates (as_rules call) s slot out (room_for call l) _ e).slot_is (allocated_fits _ _ (port-fits _ _) (granted_range (lifetime s)).1)
   asked_fits Asked.Refresh slot out e =
       rw (refreshes (as_rules call) s slot out _ _ e).slot_is
       (let few = granted_refresh_small (lifetime s) in
@@ -177,11 +179,11 @@ module _ (denied : Bool) (held : List Hold) (call : FromClient) (s : List ℕ) (
   asked_fits Asked.ChannelData slot out e = kept_not_written e
   asked_fits Asked.Nothing slot out e = kept_not_written e
 
-decided_fits : (denied : Bool) (held : List Hold) (call : Call) (s : List ℕ) (l : List Slot) (reply : List ℕ) → CallFits call → Bytes s → Ready call s reply → ((i : ℕ) → SlotFits (slot_at l i))
-    → ((i : ℕ) → HoldFits (hold_at held i)) → Writes SlotFits (decided denied held call s l).change
+decided_fits : (denied : Bool) (call : Call) (s : List ℕ) (l : List Slot) (reply : List ℕ) → CallFits call → Bytes s → Ready call s reply → ((i : ℕ) → SlotFits (slot_at l i))
+    → Writes SlotFits (decided denied call s l).change
 unfolding decided
-decided_fits denied held (Client call) s l reply fits bytes ready were fit = asked_fits denied held call s l fits bytes ready.soon ready.user were fit (asked_by s)
-decided_fits denied held (Peer call) s l reply fits bytes ready were fit = λ slot out e. kept_not_written e
+decided_fits denied (Client call) s l reply fits bytes ready were = asked_fits denied call s l fits bytes ready.soon ready.user were (asked_by s)
+decided_fits denied (Peer call) s l reply fits bytes ready were = λ slot out e. kept_not_written e
 
 -- ---- One call
 time_fits : (call : Call) → CallFits call → time_of call < 2 ^ 64
@@ -190,7 +192,7 @@ time_fits (Peer call) fits = fits.3
 
 -- another tree is met
 pub met_fits : (st : State) (a : Arrival) → StateFits st → StateFits (met st a)
-met_fits st a f = record { clock = f.clock; sixty_four = f.sixty_four; slots = f.slots; sixty_four_holds = f.sixty_four_holds; holds = f.holds }
+met_fits st a f = record { clock = f.clock; sixty_four = f.sixty_four; slots = f.slots }
 
 -- the clock and the number of slots
 abbrev Sized : State → Type 0
@@ -205,7 +207,7 @@ next_sized : (st : State) (a : Arrival) → Sized st → Sized (next st a)
 unfolding accepted
 next_sized st a f =
     acted (λ (x : Act). Sized (state_after (met st a) x)) (met st a) a.call a.datagram (length a.reply) (λ number. f)
-    (λ e. done_sized (met st a) (at_time (time_of a.call) (holding (met st a) a.call a.datagram)) (decision (met st a) a.call a.datagram).place (decision (met st a) a.call a.datagram).change
+    (λ e. done_sized (met st a) (at_time (time_of a.call) (met st a)) (decision (met st a) a.call a.datagram).place (decision (met st a) a.call a.datagram).change
     (time_fits a.call a.call_fits, f.1))
 
 pub next_fits : (st : State) (a : Arrival) → StateFits st → StateFits (next st a)
@@ -214,14 +216,12 @@ next_fits st a f =
     record {
       clock = sized.0;
       sixty_four = sized.1;
-      slots = next_keeps SlotFits st a f.slots (λ w. decided_fits (names_denied a.denied a.call a.datagram) (holds_in st) a.call a.datagram st.slots a.reply a.call_fits a.bytes w.ready f.slots f.holds);
-      sixty_four_holds = next-holds-length st a 64 f.sixty_four_holds;
-      holds = next_holds_fit st a f.holds;
+      slots = next_keeps SlotFits st a f.slots (λ w. decided_fits (names_denied a.denied a.call a.datagram) a.call a.datagram st.slots a.reply a.call_fits a.bytes w.ready f.slots);
     }
 
 -- ---- Every list of calls
 pub empty_fits : StateFits empty
-empty_fits = record { clock = lit< tt; sixty_four = refl; slots = λ i. rw (all_same fresh_slot 64 i) fresh_fits; sixty_four_holds = refl; holds = λ i. rw (all_same fresh_hold 64 i) fresh_hold_fits }
+empty_fits = record { clock = lit< tt; sixty_four = refl; slots = λ i. rw (all_same fresh_slot 64 i) fresh_fits }
 
 pub slots_fit : (list : List Event) (first last : State) → Lived first list last → StateFits first → StateFits last
 slots_fit [] first last l f = rw (← l) f

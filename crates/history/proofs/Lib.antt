@@ -2,13 +2,11 @@ pub mod Readings
 pub mod Table
 pub mod Keep
 pub mod Tests
-pub mod Holds
 pub mod Entries
 pub mod Asking
 pub mod Replies
 pub mod FreePort
 pub mod Made
-pub mod Held
 pub mod Whole
 pub mod Demand
 pub mod Codes
@@ -16,7 +14,6 @@ pub mod Slots
 pub mod Fits
 pub mod Denied
 pub mod ReadBack
-pub mod Told
 pub mod Own
 pub mod Causes
 pub mod Corollaries

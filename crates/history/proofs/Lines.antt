@@ -33,7 +33,6 @@ use Rattle.history.specs.Causes.{CausesFrom}
 use Rattle.history.proofs.Causes.{causes_from}
 use Rattle.history.specs.Denied.{AllMeet, KeptOut}
 use Rattle.history.proofs.Denied.{tree_stays, kept_out}
-use Rattle.history.proofs.Held.{held_empty}
 use Rattle.history.proofs.Whole.{accounts_empty}
 
 -- ---- What a line reads is of its type
@@ -109,7 +108,7 @@ client_fits l = pick_fits good (with_datagram call (rest 5 l)) bad (datagram_fit
         let u = number_most 4294967295 (rest 1 l) in
         let s = number_most 4294967295 (rest 2 l) in
         let p = number_most 65535 (rest 4 l) in
-        (lit< tt, (address_read (rest 3 l), omega arith), (lit< tt, lit< tt), lit< tt, omega arith, omega arith, omega arith, lit< tt)
+        (lit< tt, (address_read (rest 3 l), omega arith), (lit< tt, lit< tt), lit< tt, omega arith, omega arith, omega arith)
 
 peer_fits : (l : List ℕ) → LineFits (peer_line l)
 unfolding peer_line call_from_peer
@@ -203,7 +202,7 @@ pub lines_demand_3 : (denied : List ℕ) (rows : List Row) (last : State) → Ra
 lines_demand_3 denied rows last ran =
     let first = meeting denied empty in
     let l = lines_lived rows first last ran in
-    (l.0, l.1, demand_3_from first [] held_empty accounts_empty l.0 last l.2)
+    (l.0, l.1, demand_3_from first [] accounts_empty l.0 last l.2)
 
 -- what the field of `D` means, of the lines too
 pub lines_causes : (denied : List ℕ) (rows : List Row) (last : State) → RanAll (meeting denied empty) rows last
@@ -211,7 +210,7 @@ pub lines_causes : (denied : List ℕ) (rows : List Row) (last : State) → RanA
 lines_causes denied rows last ran =
     let first = meeting denied empty in
     let l = lines_lived rows first last ran in
-    (l.0, l.1, causes_from first [] held_empty accounts_empty l.0 last l.2)
+    (l.0, l.1, causes_from first [] accounts_empty l.0 last l.2)
 
 -- and of the lines that are run with the tree of a text: nothing passes between a client and an address that it denies
 pub lines_kept_out : (text old : List ℕ) → (read_denied text old).number ≡ 0 → (rows : List Row) (last : State) → RanAll (meeting (read_denied text old).nodes empty) rows last

@@ -18,7 +18,6 @@ use Rattle.stun.specs.declared.kinds.Method.TheVariants.{Allocate, Refresh, Crea
 use Rattle.stun.specs.declared.values.AddressValue.{AddressValue}
 use Rattle.stun.specs.Values.{transaction_id_of, peers, first_peer}
 use Rattle.slot.specs.declared.Slot.{Slot}
-use Rattle.hold.specs.declared.Hold.{Hold}
 use Rattle.slot.specs.declared.Found.{Found}
 use Rattle.slot.specs.declared.Found.TheVariants.{At, Nothing}
 use Rattle.slot.specs.Search.{find, has, at_or}
@@ -27,7 +26,7 @@ use Rattle.table.specs.Table.{slot_at, in_slot, lapsed}
 use Rattle.rules.specs.declared.requests.ClientCall.{ClientCall}
 use Rattle.rules.specs.Change.{other_cause, Out, dropped, to_client, Change, keep, write, error_message, respond}
 use Rattle.rules.specs.Values.{lifetime, channel_number, number_given, none}
-use Rattle.allocation_rules.specs.Allocations.{port_wanted, repeats, allocate_code, allocated, told_again, newly_made, allocate, renewed, refreshed, refresh, granted, granted_refresh}
+use Rattle.allocation_rules.specs.Allocations.{repeats, allocate_code, allocated, told_again, newly_made, allocate, renewed, refreshed, refresh, granted, granted_refresh}
 use Rattle.permission_rules.specs.Permissions.{create_permission, channel_bind}
 use Rattle.data_rules.specs.Data.{send, send_channel_data}
 use Rattle.data_rules.proofs.Laws.{send_is, channelled_is}
@@ -41,19 +40,18 @@ use Rattle.interface.specs.declared.incoming.Call.TheVariants.{Client}
 use Rattle.interface.specs.declared.incoming.FromClient.{FromClient}
 use Rattle.state.specs.State.{State, with_slots}
 use Rattle.state.specs.Outcomes.{Act, accept, outcome_of, reply_after, state_after}
-use Rattle.decisions.specs.Decisions.{as_rules, own_place, slot_in, new_token, room_for, on_asked}
+use Rattle.decisions.specs.Decisions.{as_rules, own_place, slot_in, room_for, on_asked}
 use Rattle.state.specs.Step.{done}
 use Rattle.client_reader.specs.Fields.{Bytes}
 use Rattle.history.specs.Counted.{Counted, without_repeats}
 use Rattle.history.specs.Events.{CallFits, addresses_of, counts_by}
-use Rattle.history.specs.Statement.{Live, hold_at}
-use Rattle.history.specs.Fits.{HoldFits}
+use Rattle.history.specs.Statement.{Live}
 use Rattle.history.proofs.Table as table
 use Rattle.history.proofs.Table.{View, Frame, Quiet, Accounts, has-lifetime, no_lifetime}
 use Rattle.history.proofs.Tests.{find_some, has_not, own_is, found_own, lapsed_is, none_own, none_port}
 use Rattle.history.proofs.Entries.{Admits, all_admitted, bound_admitted, fresh_bare, fresh_neat}
 use Rattle.history.proofs.Asking.{asks_for}
-use Rattle.history.proofs.FreePort.{given_free, given_fits, made_fits}
+use Rattle.history.proofs.FreePort.{port-free, port-fits}
 use Rattle.history.proofs.Replies.{Unaccepted, dropped_unaccepted, to_peer_unaccepted, error_unaccepted, allocate-counts, refresh-counts, permission_counts, channel_counts, left_out}
 
 pub quiet : (t : ℕ) (v : View) → Quiet t v v
@@ -88,7 +86,7 @@ some_address : (l : List AddressValue) → none l ≡ false → (a : Address) ×
 some_address [] e = absurd (true≢false e)
 some_address (v ∷ l) e = (v.peer.address, Memᴰ.head refl)
 
-module _ (call : FromClient) (st : State) (s reply : List ℕ) (held : List Hold) (fit : (i : ℕ) → HoldFits (hold_at held i)) (fits : CallFits (Client call)) (bytes : Bytes s)
+module _ (call : FromClient) (st : State) (s reply : List ℕ) (full : length st.slots ≡ 64) (fits : CallFits (Client call)) (bytes : Bytes s)
     (past : List Counted) (I : Accounts call.time (slot_at st.slots) past) where
   abbrev l : List Slot
   l = st.slots
@@ -124,24 +122,24 @@ module _ (call : FromClient) (st : State) (s reply : List ℕ) (held : List Hold
 
   -- ---- Allocate
   module _ (asked : asked_by s ≡ Asked.Allocate) (k : ℕ) (found : find (in_slot (lapsed call.time)) l ≡ At k) (slot : Slot) (out : Out)
-      (e : allocate (as_rules call) s (room_for call s l held) own ≡ write slot out) where
+      (e : allocate (as_rules call) s (room_for call l) own ≡ write slot out) where
     takes : Made (put k slot out)
     unfolding allocated fresh_slot
     takes =
-        let r = allocates (as_rules call) s slot out (room_for call s l held) own e in
+        let r = allocates (as_rules call) s slot out (room_for call l) own e in
         let new = none_own call.time call.five_tuple l (has_not _ r.new) in
         let f = find_some (in_slot (lapsed call.time)) l fresh_slot k found in
         let range = granted_range (lifetime s) in
-        let port = (room_for call s l held).port in
+        let port = (room_for call l).port in
         let is : slot_at (set l k slot) k ≡ allocated (as_rules call) (transaction_id_of s) port (granted (lifetime s)) = put_same k slot f.1 ∙ r.slot_is in
-        rw (r.out_is, allocate-counts call s reply bytes port (granted (lifetime s)) (new_token call (port_wanted s)) fits.0 (given_fits call l held fit (port_wanted s)) (omega arith) (made_fits call l held fits.7 (port_wanted s)) fits.1 (asks_for Allocate s asked), no_lifetime _ _ past I call.five_tuple new) (
+        rw (r.out_is, allocate-counts call s reply bytes port (granted (lifetime s)) fits.0 (port-fits _ _) (omega arith) fits.1 (asks_for Allocate s asked), no_lifetime _ _ past I call.five_tuple new) (
           refl,
           record {
             k = k;
             frame = put_frame k slot;
             free = λ x. let y = lapsed_is call.time (slot_at l k) f.0 in omega arith;
             new_who = new;
-            new_port = none_port call.time port l (given_free call l held (port_wanted s) r.found);
+            new_port = none_port call.time port l (port-free call.time call.start l full);
             who = rw is;
             port = rw is;
             until = rw is;
@@ -159,20 +157,20 @@ module _ (call : FromClient) (st : State) (s reply : List ℕ) (held : List Hold
       rw (left_out call s past (asks_for Allocate s asked) (has-lifetime _ _ past I call.five_tuple f.0 f.2 f.3) out reply)
       (quiet call.time (slot_at l))
 
-  allocate_stays : asked_by s ≡ Asked.Allocate → (out : Out) → allocate (as_rules call) s (room_for call s l held) own ≡ keep out → Made (accept st out)
+  allocate_stays : asked_by s ≡ Asked.Allocate → (out : Out) → allocate (as_rules call) s (room_for call l) own ≡ keep out → Made (accept st out)
   unfolding allocate
   allocate_stays asked out e = go (repeats (as_rules call) s (has (own_place call l)) own) refl e
     where
       go : (again : Bool) → repeats (as_rules call) s (has (own_place call l)) own ≡ again
-          → respond call.five_tuple Allocate s (allocate_code (as_rules call) s again (room_for call s l held)) (pick again (told_again (as_rules call) s (room_for call s l held).again own) (newly_made (as_rules call) s (room_for call s l held).port (granted (lifetime s)) (room_for call s l held).made)) ≡ keep out
+          → respond call.five_tuple Allocate s (allocate_code (as_rules call) s again (room_for call l)) (pick again (told_again (as_rules call) s own) (newly_made (as_rules call) s (room_for call l).port (granted (lifetime s)))) ≡ keep out
           → Made (accept st out)
       go true is q = repeated_made asked is out
       go false is q = made_stay out ((respond_keeps _ _ s _ _ _).quietly out q)
 
-  made_allocate : asked_by s ≡ Asked.Allocate → Made (done st (find (in_slot (lapsed call.time)) l) (allocate (as_rules call) s (room_for call s l held) own))
+  made_allocate : asked_by s ≡ Asked.Allocate → Made (done st (find (in_slot (lapsed call.time)) l) (allocate (as_rules call) s (room_for call l) own))
   made_allocate asked =
-      made_done (find (in_slot (lapsed call.time)) l) (allocate (as_rules call) s (room_for call s l held) own) (allocate_stays asked)
-      (λ slot out e. (allocates (as_rules call) s slot out (room_for call s l held) own e).room)
+      made_done (find (in_slot (lapsed call.time)) l) (allocate (as_rules call) s (room_for call l) own) (allocate_stays asked)
+      (λ slot out e. (allocates (as_rules call) s slot out (room_for call l) own e).room)
       (takes asked)
 
   -- ---- The requests about the caller's own slot
@@ -249,13 +247,13 @@ pub channelled_unaccepted : (call : ClientCall) (s : List ℕ) (own : Bool) (slo
 channelled_unaccepted call s own slot = channelled_is Unaccepted dropped_unaccepted call s own slot (λ number start len e there. to_peer_unaccepted _ _ start len)
 
 -- ---- A client's datagram
-module _ (call : FromClient) (st : State) (s reply : List ℕ) (held : List Hold) (fit : (i : ℕ) → HoldFits (hold_at held i)) (fits : CallFits (Client call)) (bytes : Bytes s)
+module _ (call : FromClient) (st : State) (s reply : List ℕ) (full : length st.slots ≡ 64) (fits : CallFits (Client call)) (bytes : Bytes s)
     (past : List Counted) (I : Accounts call.time (slot_at st.slots) past) where
   found : Found
   found = own_place call st.slots
 
   abbrev Makes : Act → Type 0
-  Makes x = Made call st s reply held fit fits bytes past I x
+  Makes x = Made call st s reply full fits bytes past I x
 
   -- a rule about the caller's own slot, which writes it only where there is one
   made_own : (rule : Bool → Slot → Change) → Keeps (rule (has found) (at_or fresh_slot found st.slots))
@@ -265,8 +263,8 @@ module _ (call : FromClient) (st : State) (s reply : List ℕ) (held : List Hold
       → Makes (done st found (rule (has found) (at_or fresh_slot found st.slots)))
   unfolding found at_or
   made_own rule q h f =
-      made_done call st s reply held fit fits bytes past I found (rule (has found) (at_or fresh_slot found st.slots))
-      (λ out e. made_stay call st s reply held fit fits bytes past I out (q.quietly out e)) h at
+      made_done call st s reply full fits bytes past I found (rule (has found) (at_or fresh_slot found st.slots))
+      (λ out e. made_stay call st s reply full fits bytes past I out (q.quietly out e)) h at
     where
       at : (k : ℕ) → found ≡ At k → (slot : Slot) (out : Out) → rule (has found) (at_or fresh_slot found st.slots) ≡ write slot out
           → Makes (accept (with_slots (set st.slots k slot) st) out)
@@ -280,18 +278,18 @@ module _ (call : FromClient) (st : State) (s reply : List ℕ) (held : List Hold
   made_data rule u =
       made_own (λ own slot. keep (rule own slot)) (keeps _ (u _ _)) (λ slot out e. kept_not_written e) (λ k room live mine slot out e. kept_not_written e)
 
-  pub made_asked : (denied : Bool) (asked : Asked) → asked_by s ≡ asked → Makes (done st (on_asked denied held call s st.slots asked).place (on_asked denied held call s st.slots asked).change)
+  pub made_asked : (denied : Bool) (asked : Asked) → asked_by s ≡ asked → Makes (done st (on_asked denied call s st.slots asked).place (on_asked denied call s st.slots asked).change)
   unfolding found refresh create_permission channel_bind
-  made_asked denied Asked.Allocate is = made_allocate call st s reply held fit fits bytes past I is
+  made_asked denied Asked.Allocate is = made_allocate call st s reply full fits bytes past I is
   made_asked denied Asked.Refresh is =
       made_own (refresh (as_rules call) s) (respond_keeps _ _ s _ _ _) (λ slot out e. (refreshes (as_rules call) s slot out _ _ e).owner.live)
-      (λ k room live mine slot out e. refreshed_made call st s reply held fit fits bytes past I k room live mine true slot out is e)
+      (λ k room live mine slot out e. refreshed_made call st s reply full fits bytes past I k room live mine true slot out is e)
   made_asked denied Asked.CreatePermission is =
       made_own (create_permission (as_rules call) s denied) (respond_keeps _ _ s _ _ _) (λ slot out e. (permits (as_rules call) s slot out _ _ e).owner.live)
-      (λ k room live mine slot out e. permitted_made call st s reply held fit fits bytes past I k room live mine true slot out denied is e)
+      (λ k room live mine slot out e. permitted_made call st s reply full fits bytes past I k room live mine true slot out denied is e)
   made_asked denied Asked.ChannelBind is =
       made_own (channel_bind (as_rules call) s denied) (respond_keeps _ _ s _ _ _) (λ slot out e. (binds (as_rules call) s slot out _ _ e).owner.live)
-      (λ k room live mine slot out e. bound_made call st s reply held fit fits bytes past I k room live mine true slot out denied is e)
+      (λ k room live mine slot out e. bound_made call st s reply full fits bytes past I k room live mine true slot out denied is e)
   made_asked denied Asked.Send is = made_data (send (as_rules call) s) (send_unaccepted (as_rules call) s)
   made_asked denied Asked.ChannelData is = made_data (send_channel_data (as_rules call) s) (channelled_unaccepted (as_rules call) s)
-  made_asked denied Asked.Nothing is = made_stay call st s reply held fit fits bytes past I (dropped other_cause) (dropped_unaccepted other_cause)
+  made_asked denied Asked.Nothing is = made_stay call st s reply full fits bytes past I (dropped other_cause) (dropped_unaccepted other_cause)

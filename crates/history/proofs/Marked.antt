@@ -12,18 +12,17 @@ use Rattle.address.specs.declared.TransportAddress.{TransportAddress}
 use Rattle.address.specs.Address.{same_address, same_transport_address, same_five_tuple, same_transaction_id}
 use Rattle.stun.specs.Kinds.{attribute_kind_of}
 use Rattle.stun.specs.Message.{sorted, next_at, step_at, walk_f, walk, is_well_formed, is_integrity, is_unknown, attributes_from, first_of, unknown_numbers, unknown_types}
-use Rattle.stun.specs.Values.{transaction_id_of, v4_at, address_at, peers_of, peers_from, first_peer, number_value, even_port, reservation_token}
+use Rattle.stun.specs.Values.{transaction_id_of, v4_at, address_at, peers_of, peers_from, first_peer, number_value}
 use Rattle.messages.specs.Messages.{error_response, allocate_success, refresh_success, bare_success, data_indication}
 use Rattle.slot.specs.declared.Permission.{Permission}
 use Rattle.slot.specs.declared.Channel.{Channel}
 use Rattle.slot.specs.Search.{find, entry, put_at, at_or}
 use Rattle.slot.specs.Slot.{live_allocation, live_permission, live_channel, fresh_transaction_id, fresh_permission, fresh_channel, fresh_slot, is_channel_number, holds, holds_user, holds_port, permits, entered, permission_state, free_permission, permission_entry, permit, numbered, leads_to, number_taken, peer_taken, free_channel, channel_entry, bind}
-use Rattle.hold.specs.Hold.{live_hold, free_hold, keeps_port, under, made_by, remembers, forgetting, next_port, new_hold, after_allocate}
 use Rattle.table.specs.Table.{count}
 use Rattle.rules.specs.Change.{permission_lapsed, Out, dropped, to_client, check, error_message, respond}
 use Rattle.rules.specs.Values.{any_unknown, malformed_peer, ipv6_peer}
 use Rattle.rules.specs.Requests.{request_code, own_code}
-use Rattle.allocation_rules.specs.Allocations.{repeats, allocate_code, allocated, seconds_left, allocate, refresh_code, renewed, refreshed, refresh, port_wanted, first_free, port_for, searched_port}
+use Rattle.allocation_rules.specs.Allocations.{repeats, allocate_code, allocated, seconds_left, allocate, refresh_code, renewed, refreshed, refresh, first_free, port_for}
 use Rattle.permission_rules.specs.Permissions.{permit_peer, permit_all, create_permission_code, create_permission, bound, channel_bind_code, channel_bind}
 use Rattle.data_rules.specs.Data.{permission_of, unless_dropped, relayed, peer_cause, relay_from_peer}
 use Rattle.decisions.specs.Client.{asked_by}
@@ -32,7 +31,7 @@ use Rattle.denied.specs.Tree.{denied_below, denied}
 use Rattle.state.specs.State.{State, state, fresh_bookkeeping, at_clock, at_time, empty}
 use Rattle.state.specs.Outcomes.{Act, accept, state_after}
 use Rattle.interface.specs.Refusals.{client_datagram, peer_datagram, refusal}
-use Rattle.decisions.specs.Decisions.{is_held, ports_held, decided, holds_after}
+use Rattle.decisions.specs.Decisions.{ports_held, decided}
 use Rattle.state.specs.Step.{accepted, act}
 
 -- ---- The calls, each with its datagram
@@ -68,7 +67,7 @@ Arrival = Call × List ℕ
 
 -- a request of user 3, with port start 5
 abbrev request : (time : ℕ) → List ℕ → Arrival
-request time datagram = (client_datagram time 3 5 0xcb007105 client 0, datagram)
+request time datagram = (client_datagram time 3 5 0xcb007105 client, datagram)
 
 abbrev allocate_at : (time seconds : ℕ) → Arrival
 allocate_at time seconds = request time (header 0 3 16 ++ transport ++ lifetime seconds)
@@ -180,7 +179,7 @@ pub record Marked : Type 0 where
   pub permission_1310 : Then permission (data_at 1310) (accept (holding 1310 1600 permitted1010 unbound) (dropped permission_lapsed))
 
 pub marked : Marked
-unfolding act refusal decided accepted ports_held asked_by permission_state entered permission_of unless_dropped peer_cause relayed relay_from_peer request_code own_code repeats allocate_code allocated seconds_left allocate refresh_code renewed refreshed refresh permit_peer permit_all create_permission_code create_permission bound channel_bind_code channel_bind first_free port_for any_unknown any malformed_peer ipv6_peer check error_message respond live_allocation live_permission live_channel fresh_slot is_channel_number holds holds_user holds_port permits free_permission permission_entry permit numbered leads_to number_taken peer_taken free_channel channel_entry bind find entry put_at at_or count error_response allocate_success refresh_success bare_success data_indication transaction_id_of v4_at address_at peers_of peers_from first_peer number_value sorted next_at step_at walk_f walk is_well_formed is_integrity is_unknown attributes_from first_of unknown_numbers unknown_types attribute_kind_of same_address same_transport_address same_five_tuple same_transaction_id both num bytes_of denied denied_below is_held searched_port port_wanted even_port reservation_token holds_after after_allocate forgetting next_port new_hold live_hold free_hold keeps_port under made_by remembers
+unfolding act refusal decided accepted ports_held asked_by permission_state entered permission_of unless_dropped peer_cause relayed relay_from_peer request_code own_code repeats allocate_code allocated seconds_left allocate refresh_code renewed refreshed refresh permit_peer permit_all create_permission_code create_permission bound channel_bind_code channel_bind first_free port_for any_unknown any malformed_peer ipv6_peer check error_message respond live_allocation live_permission live_channel fresh_slot is_channel_number holds holds_user holds_port permits free_permission permission_entry permit numbered leads_to number_taken peer_taken free_channel channel_entry bind find entry put_at at_or count error_response allocate_success refresh_success bare_success data_indication transaction_id_of v4_at address_at peers_of peers_from first_peer number_value sorted next_at step_at walk_f walk is_well_formed is_integrity is_unknown attributes_from first_of unknown_numbers unknown_types attribute_kind_of same_address same_transport_address same_five_tuple same_transaction_id both num bytes_of denied denied_below
 marked = record {
   allocate_0 = refl;
   allocate_600 = refl;

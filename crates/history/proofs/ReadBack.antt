@@ -19,14 +19,13 @@ use Rattle.stun.specs.declared.kinds.Method.{Method}
 use Rattle.stun.specs.declared.kinds.Method.TheVariants.{Allocate, Refresh, CreatePermission, ChannelBind}
 use Rattle.stun.specs.Message.{unknown_types}
 use Rattle.stun.specs.Values.{transaction_id_of}
-use Rattle.messages.specs.declared.Reservation.{Reservation}
 use Rattle.messages.specs.Messages.{allocate_success, refresh_success, bare_success, error_response, unknown_response, data_indication, channel_data}
 use Rattle.slot.specs.declared.Slot.{Slot}
-use Rattle.hold.specs.declared.Hold.{Hold}
 use Rattle.slot.specs.declared.Found.{Found}
 use Rattle.slot.specs.declared.Found.TheVariants.{At, Nothing}
 use Rattle.slot.specs.Search.{find, has, or_else, at_or}
 use Rattle.slot.specs.Slot.{fresh_slot, fresh_channel, leads_to}
+use Rattle.table.specs.Table.{slot_at}
 use Rattle.table.specs.Inner.{Within}
 use Rattle.table.proofs.Laws.{found_within}
 use Rattle.rules.specs.declared.answer.Outcome.TheVariants.{ToClient}
@@ -34,8 +33,7 @@ use Rattle.rules.specs.Change as rules
 use Rattle.rules.specs.Change.{Out, dropped, to_client, to_peer, Change, keep, write, out_of, error_message, respond}
 use Rattle.rules.specs.Inner.{slot_after}
 use Rattle.rules.specs.Values.{lifetime, any_unknown, ipv4_of}
-use Rattle.allocation_rules.specs.declared.Room.{Room}
-use Rattle.allocation_rules.specs.Allocations.{port_wanted, repeats, allocated, allocate_reply, seconds_left, told_again, newly_made, allocate, renewed, refreshed, refresh, granted, granted_refresh}
+use Rattle.allocation_rules.specs.Allocations.{repeats, allocated, allocate_reply, seconds_left, told_again, newly_made, allocate, renewed, refreshed, refresh, granted, granted_refresh}
 use Rattle.permission_rules.specs.Denials.{any_denied, first_denied}
 use Rattle.permission_rules.specs.Permissions.{create_permission, channel_bind}
 use Rattle.data_rules.specs.Data.{send, send_channel_data, relayed, relay_from_peer}
@@ -49,11 +47,11 @@ use Rattle.interface.specs.declared.incoming.Call.{Call}
 use Rattle.interface.specs.declared.incoming.Call.TheVariants.{Client, Peer}
 use Rattle.interface.specs.declared.incoming.FromClient.{FromClient}
 use Rattle.interface.specs.declared.incoming.FromPeer.{FromPeer}
-use Rattle.state.specs.State.{State, empty, clock_of, at_time, holds_in, with_slots}
+use Rattle.state.specs.State.{State, empty, clock_of, at_time}
 use Rattle.state.specs.Outcomes.{Act, refuse, accept, outcome_of, state_after, reply_after}
 use Rattle.interface.specs.Refusals.{time_of}
-use Rattle.decisions.specs.Decisions.{as_rules, own_place, slot_in, made_hold, told_token, room_for, asks_denied, names_denied, Decision, on_asked, decided, holds_on_written, holds_on_asked, holds_after}
-use Rattle.state.specs.Step.{done, decision, holding, accepted, act}
+use Rattle.decisions.specs.Decisions.{as_rules, own_place, slot_in, room_for, asks_denied, names_denied, on_asked, decided}
+use Rattle.state.specs.Step.{done, accepted, act}
 use Rattle.state.proofs.Laws.{acted}
 use Rattle.decisions.specs.Inner.{Ready}
 use Rattle.relay.proofs.Laws.{not_refused}
@@ -61,15 +59,13 @@ use Rattle.decisions.proofs.Accepted.{allocates}
 use Rattle.decisions.proofs.Laws.{decided-writes}
 use Rattle.client_reader.specs.declared.Message.TheVariants as Is
 use Rattle.client_reader.specs.declared.ReadMessage.{ReadMessage}
-use Rattle.client_reader.specs.Fields.{Bytes, IdFits, AddressFits, ReservationFits, IsBare, IsMessage, InRange, written, data_of, plain, nothing, Exact}
+use Rattle.client_reader.specs.Fields.{Bytes, IdFits, AddressFits, IsBare, IsMessage, InRange, written, data_of, plain, nothing, Exact}
 use Rattle.client_reader.proofs.Laws.{written_read, message_exact, one_reading, indication_within, indication_data, channel_within, channel_data_lem}
 use Rattle.history.specs.Events.{CallFits, TransportFits, Arrival, met, Event, Happened, Lived}
-use Rattle.history.specs.Statement.{hold_at}
-use Rattle.history.specs.Fits.{SlotFits, HoldFits, StateFits}
+use Rattle.history.specs.Fits.{SlotFits, StateFits}
 use Rattle.history.specs.ReadBack.{free_place, success_for, unknown_for, error_for, response_for, relayed_for, answer_for, fields_for, data_for, ReadAs, ReadBack}
 use Rattle.history.proofs.Tests.{find_some, leads_is}
-use Rattle.history.proofs.FreePort.{given_fits, told_fits, made_fits}
-use Rattle.history.proofs.Holds.{token_told}
+use Rattle.history.proofs.FreePort.{port-fits}
 use Rattle.history.proofs.Fits.{found_fits, met_fits, empty_fits, slots_fit}
 use Rattle.history.proofs.Replies.{dropped_not_sent, id_fits}
 use Rattle.history.proofs.Codes.{Coded, allocate_coded, refresh_coded, permission_coded, channel_coded, types_in_range}
@@ -81,12 +77,11 @@ read_as_lem : (m : ReadMessage) (payload message : List ℕ) → IsMessage m →
 read_as_lem m payload message is r w d = record { is_message = is; exact = message_exact message m is r w; read = written_read message m is r w; shown = d }
 
 module _ (id : TransactionId) (h : IdFits id) where
-  allocate_back : (relay port seconds : ℕ) (reservation : Reservation) (client : TransportAddress) {port' seconds' : ℕ} {reservation' : Reservation}
-      → relay < 2 ^ 32 → port < 2 ^ 16 → seconds < 2 ^ 32 → ReservationFits reservation → TransportFits client
-      → port' ≡ port → seconds' ≡ seconds → reservation' ≡ reservation
-      → ReadAs (plain (Is.AllocateSuccess id relay port' seconds' reservation' client)) [] (allocate_success id relay port seconds reservation client)
-  allocate_back relay port seconds reservation client hr hp hs ht hc p q t =
-      rw (p, q, t) (read_as_lem _ _ _ (λ e. let z : ◌≡◌ {A = ℕ} 0 1 = cc in omega arith) (h, hr, hp, hs, ht, hc.0, hc.1, refl) refl refl)
+  allocate_back : (relay port seconds : ℕ) (client : TransportAddress) {port' seconds' : ℕ} → relay < 2 ^ 32 → port < 2 ^ 16 → seconds < 2 ^ 32 → TransportFits client
+      → port' ≡ port → seconds' ≡ seconds
+      → ReadAs (plain (Is.AllocateSuccess id relay port' seconds' client)) [] (allocate_success id relay port seconds client)
+  allocate_back relay port seconds client hr hp hs hc p q =
+      rw (p, q) (read_as_lem _ _ _ (λ e. let z : ◌≡◌ {A = ℕ} 0 1 = cc in omega arith) (h, hr, hp, hs, hc.0, hc.1, refl) refl refl)
 
   refresh_back : (seconds : ℕ) {seconds' : ℕ} → seconds < 2 ^ 32 → seconds' ≡ seconds
       → ReadAs (plain (Is.RefreshSuccess id seconds')) [] (refresh_success id seconds)
@@ -123,11 +118,10 @@ Readable fields payload (dropped cause) = Unit
 Readable fields payload (to_client fiveTuple message) = ReadAs fields payload message
 Readable fields payload (to_peer port peer start len) = Unit
 
--- a slot that is written stands at its place, and where none is, the slots are as they were; and the holds are these
-record Left (before after : State) (held : List Hold) (place : Found) (change : Change) : Type 0 where
-  wrote : (slot : Slot) (out : Out) → change ≡ write slot out → slot_in after.slots place ≡ slot
-  kept : (out : Out) → change ≡ keep out → after.slots ≡ before.slots
-  holds_are : holds_in after ≡ held
+-- a slot that is written stands at its place, and where none is, the slots are as they were
+record Left (before after : List Slot) (place : Found) (change : Change) : Type 0 where
+  wrote : (slot : Slot) (out : Out) → change ≡ write slot out → slot_in after place ≡ slot
+  kept : (out : Out) → change ≡ keep out → after ≡ before
 
 -- ---- Requests
 
@@ -173,81 +167,65 @@ module _ (s : List ℕ) (bytes : Bytes s) where
       go true e = r (eqb-true code 0 e)
       go false e = error_message_back method code h (eqb-false code 0 e)
 
-  module _ (call : FromClient) (fits : CallFits (Client call)) (before after : State) where
+  module _ (denied : List ℕ) (call : FromClient) (fits : CallFits (Client call)) (before after : List Slot) where
     abbrev own : Bool
-    own = has (own_place call before.slots)
+    own = has (own_place call before)
 
     abbrev slot : Slot
-    slot = slot_in before.slots (own_place call before.slots)
-
-    abbrev room : Room
-    room = room_for call s before.slots (holds_in before)
+    slot = slot_in before (own_place call before)
 
     -- the slot that an accepted Allocate is answered from: the caller's own, or else the one that it took
     abbrev answering : Slot
-    answering = slot_in after.slots (or_else (own_place call before.slots) (free_place call before.slots))
+    answering = slot_in after (or_else (own_place call before) (free_place call before))
 
-    -- the token that it is answered with, by the holds afterwards
-    abbrev token_of_lem : List Hold → Reservation
-    token_of_lem held = told_token held (made_hold call s held)
-
-    kept_own : after.slots ≡ before.slots → own ≡ true → answering ≡ slot
-    kept_own same there = go (own_place call before.slots) there
+    kept_own : after ≡ before → own ≡ true → answering ≡ slot
+    kept_own same there = go (own_place call before) there
       where
-        go : (place : Found) → has place ≡ true → slot_in after.slots (or_else place (free_place call before.slots)) ≡ slot_in before.slots place
+        go : (place : Found) → has place ≡ true → slot_in after (or_else place (free_place call before)) ≡ slot_in before place
         go (At i) e = ap (λ (l : List Slot). slot_in l (At i)) same
         go Nothing e = absurd (false≢true e)
 
-    took_free : {made : Slot} → slot_in after.slots (free_place call before.slots) ≡ made → own ≡ false → answering ≡ made
-    took_free {made} is none = go (own_place call before.slots) none
+    took_free : {made : Slot} → slot_in after (free_place call before) ≡ made → own ≡ false → answering ≡ made
+    took_free {made} is none = go (own_place call before) none
       where
-        go : (place : Found) → has place ≡ false → slot_in after.slots (or_else place (free_place call before.slots)) ≡ made
+        go : (place : Found) → has place ≡ false → slot_in after (or_else place (free_place call before)) ≡ made
         go (At i) e = absurd (true≢false e)
         go Nothing e = is
 
     -- what an accepted Allocate is read back as, from the slot that it is answered from
-    allocated_back : (port seconds : ℕ) (reservation : Reservation) → port < 2 ^ 16 → seconds < 2 ^ 32 → ReservationFits reservation
-        → answering.allocation.port ≡ port → seconds_left call.time answering.allocation.expiry ≡ seconds → token_of_lem (holds_in after) ≡ reservation
-        → Readable (plain (success_for call s before after Allocate)) [] (allocate_reply (as_rules call) s port seconds reservation)
-    allocated_back port seconds reservation p n r = allocate_back (transaction_id_of s) (id_fits s bytes) _ port seconds reservation _ fits.0 p n r fits.1
+    allocated_back : (port seconds : ℕ) → port < 2 ^ 16 → seconds < 2 ^ 32
+        → answering.allocation.port ≡ port → seconds_left call.time answering.allocation.expiry ≡ seconds
+        → Readable (plain (success_for call s before after Allocate)) [] (allocate_reply (as_rules call) s port seconds)
+    allocated_back port seconds p n = allocate_back (transaction_id_of s) (id_fits s bytes) _ port seconds _ fits.0 p n fits.1
 
-    allocate_readable : Left before after (holds_on_written call s (allocate (as_rules call) s room slot) (holds_in before)) (free_place call before.slots) (allocate (as_rules call) s room slot)
-        → SlotFits slot → ((i : ℕ) → HoldFits (hold_at (holds_in before) i))
-        → Readable (response_for call s before after Allocate) [] (out_of (allocate (as_rules call) s room slot))
+    allocate_readable : Left before after (free_place call before) (allocate (as_rules call) s (room_for call before) slot) → SlotFits slot
+        → Readable (response_for denied call s before after Allocate) [] (out_of (allocate (as_rules call) s (room_for call before) slot))
     unfolding allocate allocated seconds_left
-    allocate_readable left was fit =
-        respond_back _ _ _ _ _ (allocate_coded s (as_rules call) (repeats (as_rules call) s own slot) room)
+    allocate_readable left was =
+        respond_back _ _ _ _ _ (allocate_coded s (as_rules call) (repeats (as_rules call) s own slot) (room_for call before))
         (λ e. go (repeats (as_rules call) s own slot) refl (answered_by _ _ _ _ e))
       where
         again : Change
-        again = told_again (as_rules call) s room.again slot
+        again = told_again (as_rules call) s slot
 
         new : Change
-        new = newly_made (as_rules call) s room.port (granted (lifetime s)) room.made
+        new = newly_made (as_rules call) s (room_for call before).port (granted (lifetime s))
 
         picked : {b : Bool} → repeats (as_rules call) s own slot ≡ b → pick (repeats (as_rules call) s own slot) again new ≡ pick b again new
         picked is = ap (λ (b : Bool). pick b again new) is
 
-        -- the token by the holds that this change leaves
-        told_by : {change : Change} → allocate (as_rules call) s room slot ≡ change → token_of_lem (holds_in after) ≡ token_of_lem (holds_on_written call s change (holds_in before))
-        told_by q = ap token_of_lem (left.holds_are ∙ ap (λ (c : Change). holds_on_written call s c (holds_in before)) q)
-
-        go : (b : Bool) → repeats (as_rules call) s own slot ≡ b → allocate (as_rules call) s room slot ≡ pick (repeats (as_rules call) s own slot) again new
+        go : (b : Bool) → repeats (as_rules call) s own slot ≡ b → allocate (as_rules call) s (room_for call before) slot ≡ pick (repeats (as_rules call) s own slot) again new
             → Readable (plain (success_for call s before after Allocate)) [] (out_of (pick b again new))
         go true is q =
             let same = kept_own (left.kept _ (q ∙ picked is)) (repeats_own (as_rules call) s own slot is) in
-            allocated_back slot.allocation.port (seconds_left call.time slot.allocation.expiry) room.again was.allocation.port (omega arith)
-            (told_fits call before.slots (holds_in before) fit (made_hold call s (holds_in before))) (rw same refl) (rw same refl) (told_by (q ∙ picked is))
+            allocated_back slot.allocation.port (seconds_left call.time slot.allocation.expiry) was.allocation.port (omega arith) (rw same refl) (rw same refl)
         go false is q =
             let small = granted_small (lifetime s) in
-            let made = allocates (as_rules call) s _ _ room slot (q ∙ picked is) in
-            let taken = took_free (left.wrote _ _ (q ∙ picked is)) made.new in
-            allocated_back room.port (granted (lifetime s)) room.made (given_fits call before.slots (holds_in before) fit (port_wanted s)) (omega arith)
-            (made_fits call before.slots (holds_in before) fits.7 (port_wanted s)) (rw taken refl) (rw taken (omega arith))
-            (told_by (q ∙ picked is) ∙ token_told call s room.port (holds_in before) (port_wanted s) made.holdable)
+            let taken = took_free (left.wrote _ _ (q ∙ picked is)) (allocates (as_rules call) s _ _ (room_for call before) slot (q ∙ picked is)).new in
+            allocated_back (room_for call before).port (granted (lifetime s)) (port-fits _ _) (omega arith) (rw taken refl) (rw taken (omega arith))
 
-    refresh_readable : {held : List Hold} → Left before after held (own_place call before.slots) (refresh (as_rules call) s own slot)
-        → Readable (response_for call s before after Refresh) [] (out_of (refresh (as_rules call) s own slot))
+    refresh_readable : Left before after (own_place call before) (refresh (as_rules call) s own slot)
+        → Readable (response_for denied call s before after Refresh) [] (out_of (refresh (as_rules call) s own slot))
     unfolding refresh
     refresh_readable left =
         respond_back _ _ _ _ _ (refresh_coded s (as_rules call) _ _) (λ e.
@@ -256,14 +234,11 @@ module _ (s : List ℕ) (bytes : Bytes s) where
         refresh_back (transaction_id_of s) (id_fits s bytes) _ (omega arith)
         (until_expiry call.time (granted_refresh (lifetime s)) slot made))
 
-    abbrev denied : List ℕ
-    denied = before.bookkeeping.denied
-
-    permission_readable : Readable (response_for call s before after CreatePermission) [] (out_of (create_permission (as_rules call) s (any_denied denied s) own slot))
+    permission_readable : Readable (response_for denied call s before after CreatePermission) [] (out_of (create_permission (as_rules call) s (any_denied denied s) own slot))
     unfolding create_permission
     permission_readable = respond_back _ _ _ _ _ (permission_coded s (as_rules call) _ own slot) (λ e. bare_back (transaction_id_of s) (id_fits s bytes) CreatePermission tt)
 
-    channel_readable : Readable (response_for call s before after ChannelBind) [] (out_of (channel_bind (as_rules call) s (first_denied denied s) own slot))
+    channel_readable : Readable (response_for denied call s before after ChannelBind) [] (out_of (channel_bind (as_rules call) s (first_denied denied s) own slot))
     unfolding channel_bind
     channel_readable = respond_back _ _ _ _ _ (channel_coded s (as_rules call) _ own slot) (λ e. bare_back (transaction_id_of s) (id_fits s bytes) ChannelBind tt)
 
@@ -274,13 +249,10 @@ module _ (s : List ℕ) (bytes : Bytes s) where
     channelled_readable : Readable nothing [] (send_channel_data (as_rules call) s own slot)
     channelled_readable = channelled_is (Readable nothing []) (λ cause. tt) _ s own slot (λ number start len e there. tt)
 
-    -- what is decided
-    abbrev decides : Asked → Decision
-    decides asked = on_asked (asks_denied denied s asked) (holds_in before) call s before.slots asked
-
-    asked_readable : StateFits before → (asked : Asked) → Left before after (holds_on_asked call s asked (decides asked).change (holds_in before)) (decides asked).place (decides asked).change
-        → Readable (answer_for call s before after asked) [] (out_of (decides asked).change)
-    asked_readable were Asked.Allocate left = allocate_readable left (found_fits _ before.slots were.slots) were.holds
+    asked_readable : ((i : ℕ) → SlotFits (slot_at before i)) → (asked : Asked)
+        → Left before after (on_asked (asks_denied denied s asked) call s before asked).place (on_asked (asks_denied denied s asked) call s before asked).change
+        → Readable (answer_for denied call s before after asked) [] (out_of (on_asked (asks_denied denied s asked) call s before asked).change)
+    asked_readable were Asked.Allocate left = allocate_readable left (found_fits _ before were)
     asked_readable were Asked.Refresh left = refresh_readable left
     asked_readable were Asked.CreatePermission left = permission_readable
     asked_readable were Asked.ChannelBind left = channel_readable
@@ -318,63 +290,61 @@ module _ (call : FromPeer) (s : List ℕ) (fits : CallFits (Peer call)) (few : l
 
 -- ---- Every call
 
-decided_readable : (call : Call) (s reply : List ℕ) (before after : State) → CallFits call → Bytes s → Ready call s reply → StateFits before
-    → Left before after (holds_after call s (decision before call s).change (holds_in before)) (decision before call s).place (decision before call s).change
-    → Readable (fields_for call s before after) (data_for call s) (out_of (decision before call s).change)
-unfolding decided holds_after
-decided_readable (Client call) s reply before after fits bytes ready were left = asked_readable s bytes call fits before after were (asked_by s) left
-decided_readable (Peer call) s reply before after fits bytes ready were left =
+decided_readable : (denied : List ℕ) (call : Call) (s reply : List ℕ) (before after : List Slot) → CallFits call → Bytes s → Ready call s reply → ((i : ℕ) → SlotFits (slot_at before i))
+    → Left before after (decided (names_denied denied call s) call s before).place (decided (names_denied denied call s) call s before).change
+    → Readable (fields_for denied call s before after) (data_for call s) (out_of (decided (names_denied denied call s) call s before).change)
+unfolding decided
+decided_readable denied (Client call) s reply before after fits bytes ready were left = asked_readable s bytes denied call fits before after were (asked_by s) left
+decided_readable denied (Peer call) s reply before after fits bytes ready were left =
     rw (left.kept _ refl) (peer_readable call s fits ready.short _ _)
 
 -- the place that was found lies in the table
-asked_within : (denied : Bool) (held : List Hold) (call : FromClient) (s : List ℕ) (slots : List Slot) (asked : Asked) → Within (on_asked denied held call s slots asked).place (length slots)
-asked_within denied held call s slots Asked.Allocate = found_within _ slots _ refl
-asked_within denied held call s slots Asked.Refresh = found_within _ slots _ refl
-asked_within denied held call s slots Asked.CreatePermission = found_within _ slots _ refl
-asked_within denied held call s slots Asked.ChannelBind = found_within _ slots _ refl
-asked_within denied held call s slots Asked.Send = found_within _ slots _ refl
-asked_within denied held call s slots Asked.ChannelData = found_within _ slots _ refl
-asked_within denied held call s slots Asked.Nothing = tt
+asked_within : (denied : Bool) (call : FromClient) (s : List ℕ) (slots : List Slot) (asked : Asked) → Within (on_asked denied call s slots asked).place (length slots)
+asked_within denied call s slots Asked.Allocate = found_within _ slots _ refl
+asked_within denied call s slots Asked.Refresh = found_within _ slots _ refl
+asked_within denied call s slots Asked.CreatePermission = found_within _ slots _ refl
+asked_within denied call s slots Asked.ChannelBind = found_within _ slots _ refl
+asked_within denied call s slots Asked.Send = found_within _ slots _ refl
+asked_within denied call s slots Asked.ChannelData = found_within _ slots _ refl
+asked_within denied call s slots Asked.Nothing = tt
 
-decided_within : (denied : Bool) (held : List Hold) (call : Call) (s : List ℕ) (slots : List Slot) → Within (decided denied held call s slots).place (length slots)
+decided_within : (denied : Bool) (call : Call) (s : List ℕ) (slots : List Slot) → Within (decided denied call s slots).place (length slots)
 unfolding decided
-decided_within denied held (Client call) s slots = asked_within denied held call s slots (asked_by s)
-decided_within denied held (Peer call) s slots = found_within _ slots _ refl
+decided_within denied (Client call) s slots = asked_within denied call s slots (asked_by s)
+decided_within denied (Peer call) s slots = found_within _ slots _ refl
 
-abbrev ReadableAct : Call → List ℕ → State → Act → Type 0
-ReadableAct call s before (refuse number) = Unit
-ReadableAct call s before (accept next out) = Readable (fields_for call s before next) (data_for call s) out
+abbrev ReadableAct : (denied : List ℕ) → Call → List ℕ → List Slot → Act → Type 0
+ReadableAct denied call s before (refuse number) = Unit
+ReadableAct denied call s before (accept next out) = Readable (fields_for denied call s before next.slots) (data_for call s) out
 
-left_kept : (before after : State) (place : Found) (out : Out) → after.slots ≡ before.slots → Left before after (holds_in after) place (keep out)
-left_kept before after place out e = record { wrote = λ slot out e. kept_not_written e; kept = λ out q. e; holds_are = refl }
+left_kept : (slots : List Slot) (place : Found) (out : Out) → Left slots slots place (keep out)
+left_kept slots place out = record { wrote = λ slot out e. kept_not_written e; kept = λ out e. refl }
 
--- `st` is the state before with the clock and the holds that the call leaves
-done_readable : (call : Call) (s : List ℕ) (before st : State) (place : Found) (change : Change) → st.slots ≡ before.slots → Within place (length st.slots)
+done_readable : (denied : List ℕ) (call : Call) (s : List ℕ) (st : State) (place : Found) (change : Change) → Within place (length st.slots)
     → ((slot : Slot) (out : Out) → change ≡ write slot out → has place ≡ true)
-    → ((after : State) → Left before after (holds_in st) place change → Readable (fields_for call s before after) (data_for call s) (out_of change))
-    → ReadableAct call s before (done st place change)
+    → ((after : List Slot) → Left st.slots after place change → Readable (fields_for denied call s st.slots after) (data_for call s) (out_of change))
+    → ReadableAct denied call s st.slots (done st place change)
 unfolding at_or
-done_readable call s before st (At k) (keep out) same w h f = f st (left_kept before st (At k) out same)
-done_readable call s before st (At k) (write slot out) same w h f =
-    f (with_slots (set st.slots k slot) st) (record {
+done_readable denied call s st (At k) (keep out) w h f = f st.slots (left_kept st.slots (At k) out)
+done_readable denied call s st (At k) (write slot out) w h f =
+    f (set st.slots k slot) (record {
       wrote = λ other out e. get_or-set_same st.slots k slot fresh_slot w ∙ ap (slot_after fresh_slot) e;
       kept = λ out e. kept_not_written (sym e);
-      holds_are = refl;
     })
-done_readable call s before st Nothing (keep out) same w h f = f st (left_kept before st Nothing out same)
-done_readable call s before st Nothing (write slot out) same w h f = absurd (false≢true (h slot out refl))
+done_readable denied call s st Nothing (keep out) w h f = f st.slots (left_kept st.slots Nothing out)
+done_readable denied call s st Nothing (write slot out) w h f = absurd (false≢true (h slot out refl))
 
-act_readable : (st : State) (a : Arrival) → StateFits st → ReadableAct a.call a.datagram st (act st a.call a.datagram (length a.reply))
+act_readable : (st : State) (a : Arrival) → StateFits st
+    → ReadableAct st.bookkeeping.denied a.call a.datagram st.slots (act st a.call a.datagram (length a.reply))
 unfolding accepted
 act_readable st a f =
-    let names = names_denied st.bookkeeping.denied a.call a.datagram in
-    let d = decision st a.call a.datagram in
-    acted (ReadableAct a.call a.datagram st) st a.call a.datagram (length a.reply) (λ number. tt)
-    (λ e. done_readable a.call a.datagram st (at_time (time_of a.call) (holding st a.call a.datagram)) d.place d.change refl
-    (decided_within names (holds_in st) a.call a.datagram st.slots)
-    (decided-writes names (holds_in st) a.call a.datagram st.slots) (λ after left.
-    decided_readable a.call a.datagram a.reply st after a.call_fits a.bytes
-    (not_refused (clock_of st) st.slots a.datagram a.reply a.call e).ready f left))
+    let denied = st.bookkeeping.denied in
+    let names = names_denied denied a.call a.datagram in
+    acted (ReadableAct denied a.call a.datagram st.slots) st a.call a.datagram (length a.reply) (λ number. tt)
+    (λ e. done_readable denied a.call a.datagram (at_time (time_of a.call) st) _ _ (decided_within names a.call a.datagram st.slots)
+    (decided-writes names a.call a.datagram st.slots) (λ after left.
+    decided_readable denied a.call a.datagram a.reply st.slots after a.call_fits a.bytes
+    (not_refused (clock_of st) st.slots a.datagram a.reply a.call e).ready f.slots left))
 
 -- ---- The theorem
 
@@ -391,14 +361,14 @@ sent_readable fields payload (to_peer port peer start len) reply C n r e = let z
 pub read_back : ReadBack
 read_back before after a reply' C n f d = rw (d.state_is, d.reply_is) (go (act before a.call a.datagram (length a.reply)) (act_readable before a f) d.outcome_is)
   where
-    go : (x : Act) → ReadableAct a.call a.datagram before x → ToClient C n ≡ outcome_of x
-        → ReadAs (fields_for a.call a.datagram before (state_after before x)) (data_for a.call a.datagram) (take n (reply_after a.reply x))
+    go : (x : Act) → ReadableAct before.bookkeeping.denied a.call a.datagram before.slots x → ToClient C n ≡ outcome_of x
+        → ReadAs (fields_for before.bookkeeping.denied a.call a.datagram before.slots (state_after before x).slots) (data_for a.call a.datagram) (take n (reply_after a.reply x))
     go (refuse number) r e = let z : ◌≡◌ {A = ℕ} 0 1 = cc in let y : ⊥ = omega arith in absurd y
     go (accept next out) r e = sent_readable _ _ out a.reply C n r e
 
 -- so it is of every call after a list of calls to an empty relay
 pub lived_read_back : (list : List Event) (st after : State) (e : Event) (C : FiveTuple) (n : ℕ) → Lived empty list st → Happened st e after → e.outcome ≡ ToClient C n
-    → ReadAs (fields_for e.arrival.call e.arrival.datagram (met st e.arrival) after) (data_for e.arrival.call e.arrival.datagram) (take n e.reply)
+    → ReadAs (fields_for e.arrival.denied e.arrival.call e.arrival.datagram st.slots after.slots) (data_for e.arrival.call e.arrival.datagram) (take n e.reply)
 lived_read_back list st after e C n lived h is =
     read_back (met st e.arrival) after e.arrival e.reply C n (met_fits st e.arrival (slots_fit list empty st lived empty_fits)) (rw is at h)
 

@@ -16,8 +16,6 @@ use Rattle.stun.specs.declared.kinds.Method.{Method}
 use Rattle.stun.specs.declared.kinds.Method.TheVariants.{Allocate, Refresh, CreatePermission, ChannelBind}
 use Rattle.stun.specs.Kinds.{request_type}
 use Rattle.slot.specs.declared.Slot.{Slot}
-use Rattle.hold.specs.declared.Hold.{Hold}
-use Rattle.messages.specs.declared.Reservation.{Reservation}
 use Rattle.slot.specs.declared.Found.{Found}
 use Rattle.slot.specs.declared.Found.TheVariants.{Nothing}
 use Rattle.slot.specs.Search.{has, at_or}
@@ -33,14 +31,14 @@ use Rattle.data_rules.specs.Data.{send, send_channel_data}
 use Rattle.decisions.specs.declared.client.Asked.{Asked}
 use Rattle.decisions.specs.declared.client.Asked.TheVariants as Asked
 use Rattle.decisions.specs.Client.{request_asks, asked_by}
-use Rattle.decisions.specs.Decisions.{as_rules, own_place, slot_in, made_hold, told_token, room_for, on_asked, decided, holds_on_written, holds_on_asked, holds_after}
+use Rattle.decisions.specs.Decisions.{as_rules, own_place, slot_in, room_for, on_asked, decided}
 use Rattle.decisions.proofs.Accepted.{allocates}
 use Rattle.interface.specs.declared.incoming.Call.{Call}
 use Rattle.interface.specs.declared.incoming.Call.TheVariants.{Client, Peer}
 use Rattle.interface.specs.declared.incoming.FromClient.{FromClient}
 use Rattle.interface.specs.declared.refusals.Lengths.{Lengths}
 use Rattle.interface.specs.Refusals.{time_of, lengths, refusal}
-use Rattle.state.specs.State.{State, empty, clock_of, at_time, holds_in, with_holds}
+use Rattle.state.specs.State.{State, empty, clock_of, at_time}
 use Rattle.state.specs.Outcomes.{Act, refuse, accept, outcome_of, reply_after, state_after}
 use Rattle.state.specs.Step.{done, accepted, act}
 use Rattle.state.proofs.Laws.{acted}
@@ -59,8 +57,6 @@ use Rattle.history.proofs.Tests.{has_not, found_own, none_own, clash}
 use Rattle.history.proofs.Asking.{asks_for, asks_no_other}
 use Rattle.history.proofs.Replies.{Unaccepted, dropped_unaccepted, error_unaccepted, allocate-counts}
 use Rattle.history.proofs.Made.{send_unaccepted, channelled_unaccepted}
-use Rattle.history.proofs.FreePort.{told_fits}
-use Rattle.history.proofs.Held.{held_empty}
 use Rattle.history.proofs.Whole.{accounts_empty, lived_accounts, refused_counts, done_keep}
 use Rattle.history.proofs.Fits.{found_fits, met_fits, empty_fits, slots_fit}
 
@@ -95,7 +91,7 @@ pick_never false c n = refl
 
 module _ (call : FromClient) (s : List ℕ) {C : FiveTuple} {port t seconds : ℕ} where
   message_of : (m : Message) → counts_as call s m ≡ gave C port t seconds → Of call s C t
-  message_of (Reads.AllocateSuccess id relay p n reservation client) e = go (asks Allocate s) refl e
+  message_of (Reads.AllocateSuccess id relay p n client) e = go (asks Allocate s) refl e
     where
       go : (b : Bool) → asks Allocate s ≡ b → pick b (gave call.five_tuple p call.time n) nothing ≡ gave C port t seconds → Of call s C t
       go true a q = record { who = cc; when = cc; asked = a }
@@ -136,22 +132,18 @@ module _ (st : State) (past : List Counted) (I : AccountsFor past st) (typed : S
   Answers call s reply x = counts_by call s (outcome_of x) (reply_after reply x) ≡ gave C port t seconds → Answered st (state_after st x) C port t seconds
 
   module _ (denied : Bool) (call : FromClient) (s reply : List ℕ) (fits : CallFits (Client call)) (bytes : Bytes s) (not_before : clock_of st ≤ call.time) where
-    -- the state at its time, with the holds that it leaves
-    abbrev now : List Hold → State
-    now left = at_time call.time (with_holds left st)
+    abbrev now : State
+    now = at_time call.time st
 
     abbrev l : List Slot
     l = st.slots
-
-    abbrev held : List Hold
-    held = holds_in st
 
     abbrev own : Slot
     own = slot_in l (own_place call l)
 
     -- what is kept and no success is none
-    silent : (left : List Hold) (place : Found) (out : Out) → Unaccepted out → Answers (Client call) s reply (done (now left) place (keep out))
-    silent left place out u = rw (done_keep (now left) place out) (λ q. never (ap is_allocation (u.counts call s reply)) q)
+    silent : (place : Found) (out : Out) → Unaccepted out → Answers (Client call) s reply (done now place (keep out))
+    silent place out u = rw (done_keep now place out) (λ q. never (ap is_allocation (u.counts call s reply)) q)
 
     -- the request is no other
     other : (method : Method) → eqb (request_type Allocate) (request_type method) ≡ false → asked_by s ≡ request_asks method → (x : Act) → Answers (Client call) s reply x
@@ -159,20 +151,16 @@ module _ (st : State) (past : List Counted) (I : AccountsFor past st) (typed : S
         let of = outcome_of_lem call s (outcome_of x) (reply_after reply x) q in
         clash _ (asks_for method s asked) (asks_no_other Allocate method s differ of.asked)
 
-    -- the token that a repeat carries
-    abbrev told : Reservation
-    told = told_token held (made_hold call s held)
-
     -- a repeat is answered from the caller's own slot
     again : (place : Found) → asked_by s ≡ Asked.Allocate → repeats (as_rules call) s (has (own_place call l)) own ≡ true
-        → Answers (Client call) s reply (done (now held) place (told_again (as_rules call) s told own))
+        → Answers (Client call) s reply (done now place (told_again (as_rules call) s own))
     unfolding seconds_left at_or
-    again place asked same = rw (done_keep (now held) place (out_of (told_again (as_rules call) s told own))) (λ q.
+    again place asked same = rw (done_keep now place (out_of (told_again (as_rules call) s own))) (λ q.
         let f = found_own call.time call.five_tuple l (repeats_own _ s _ own same) in
         let k : ℕ = f.0 in
         let at : own ≡ slot_at l k = ap (slot_in l) f.1 in
         let fit = (found_fits (own_place call l) l typed.slots).allocation.port in
-        let said = sym (allocate-counts call s reply bytes own.allocation.port (seconds_left call.time own.allocation.expiry) told fits.0 fit (omega arith) (told_fits call l held typed.holds (made_hold call s held)) fits.1 (asks_for Allocate s asked)) ∙ q in
+        let said = sym (allocate-counts call s reply bytes own.allocation.port (seconds_left call.time own.allocation.expiry) fits.0 fit (omega arith) fits.1 (asks_for Allocate s asked)) ∙ q in
         let who : call.five_tuple ≡ C = cc in
         let when : call.time ≡ t = cc in
         let port_is : own.allocation.port ≡ port = cc in
@@ -187,49 +175,44 @@ module _ (st : State) (past : List Counted) (I : AccountsFor past st) (typed : S
           same = rw (← when) refl;
         })
 
-    allocate_answers : (place : Found) → asked_by s ≡ Asked.Allocate
-        → Answers (Client call) s reply (done (now (holds_on_written call s (allocate (as_rules call) s (room_for call s l held) own) held)) place (allocate (as_rules call) s (room_for call s l held) own))
+    allocate_answers : (place : Found) → asked_by s ≡ Asked.Allocate → Answers (Client call) s reply (done now place (allocate (as_rules call) s (room_for call l) own))
     unfolding allocate respond
     allocate_answers place asked = go (eqb code 0) refl (repeats (as_rules call) s (has (own_place call l)) own) refl
       where
         code : ℕ
-        code = allocate_code (as_rules call) s (repeats (as_rules call) s (has (own_place call l)) own) (room_for call s l held)
+        code = allocate_code (as_rules call) s (repeats (as_rules call) s (has (own_place call l)) own) (room_for call l)
 
         new : Change
-        new = newly_made (as_rules call) s (room_for call s l held).port (rules.granted (lifetime s)) (room_for call s l held).made
+        new = newly_made (as_rules call) s (room_for call l).port (rules.granted (lifetime s))
 
         -- a new allocation is for a client without a live slot, and so without a lifetime that lasts
-        never_new : allocate (as_rules call) s (room_for call s l held) own ≡ new → (x : Act) → Answers (Client call) s reply x
+        never_new : allocate (as_rules call) s (room_for call l) own ≡ new → (x : Act) → Answers (Client call) s reply x
         never_new w x q =
             let of = outcome_of_lem call s (outcome_of x) (reply_after reply x) q in
-            let none = none_own call.time call.five_tuple l (has_not _ (allocates (as_rules call) s _ _ (room_for call s l held) own w).new) in
+            let none = none_own call.time call.five_tuple l (has_not _ (allocates (as_rules call) s _ _ (room_for call l) own w).new) in
             clash _ lasts (rw (of.who, of.when) at (no_lifetime _ _ past (accounts_later _ _ _ past not_before I) call.five_tuple none))
 
-        made : Bool → Bool → Change
-        made b r = pick b (pick r (told_again (as_rules call) s told own) new) (keep (to_client call.five_tuple (error_message Allocate s code)))
-
         go : (b : Bool) → eqb code 0 ≡ b → (r : Bool) → repeats (as_rules call) s (has (own_place call l)) own ≡ r
-            → Answers (Client call) s reply (done (now (holds_on_written call s (made b r) held)) place (made b r))
+            → Answers (Client call) s reply (done now place (pick b (pick r (told_again (as_rules call) s own) new) (keep (to_client call.five_tuple (error_message Allocate s code)))))
         go true e true same = again place asked same
-        go true e false same = never_new (rw (e, same)) (done (now (holds_on_written call s new held)) place new)
-        go false e r same = silent held place (to_client call.five_tuple (error_message Allocate s code)) (error_unaccepted call.five_tuple Allocate s code)
+        go true e false same = never_new (rw (e, same)) (done now place new)
+        go false e r same = silent place (to_client call.five_tuple (error_message Allocate s code)) (error_unaccepted call.five_tuple Allocate s code)
 
     abbrev doing : Asked → Act
-    doing asked =
-        let d = on_asked denied held call s l asked in done (now (holds_on_asked call s asked d.change held)) d.place d.change
+    doing asked = done now (on_asked denied call s l asked).place (on_asked denied call s l asked).change
 
     asked_answers : (asked : Asked) → asked_by s ≡ asked → Answers (Client call) s reply (doing asked)
-    asked_answers Asked.Allocate e = allocate_answers (on_asked denied held call s l Asked.Allocate).place e
+    asked_answers Asked.Allocate e = allocate_answers (on_asked denied call s l Asked.Allocate).place e
     asked_answers Asked.Refresh e = other Refresh refl e (doing Asked.Refresh)
     asked_answers Asked.CreatePermission e = other CreatePermission refl e (doing Asked.CreatePermission)
     asked_answers Asked.ChannelBind e = other ChannelBind refl e (doing Asked.ChannelBind)
-    asked_answers Asked.Send e = silent held (own_place call l) (send (as_rules call) s (has (own_place call l)) own) (send_unaccepted (as_rules call) s _ _)
+    asked_answers Asked.Send e = silent (own_place call l) (send (as_rules call) s (has (own_place call l)) own) (send_unaccepted (as_rules call) s _ _)
     asked_answers Asked.ChannelData e =
-        silent held (own_place call l) (send_channel_data (as_rules call) s (has (own_place call l)) own) (channelled_unaccepted (as_rules call) s _ _)
-    asked_answers Asked.Nothing e = silent held Nothing (dropped other_cause) (dropped_unaccepted other_cause)
+        silent (own_place call l) (send_channel_data (as_rules call) s (has (own_place call l)) own) (channelled_unaccepted (as_rules call) s _ _)
+    asked_answers Asked.Nothing e = silent Nothing (dropped other_cause) (dropped_unaccepted other_cause)
 
   call_answered : (call : Call) (s reply : List ℕ) → CallFits call → Bytes s → clock_of st ≤ time_of call → Answers call s reply (accepted st call s)
-  unfolding accepted decided holds_after
+  unfolding accepted decided
   call_answered (Client call) s reply fits bytes le q = asked_answers _ call s reply fits bytes le (asked_by s) refl q
   call_answered (Peer call) s reply fits bytes le q = never refl q
 
@@ -244,7 +227,7 @@ repeat_answered : (list : List Event) (st after : State) (e : Event) → Lived e
     → Repeat (counted [] list) e C port t seconds → Answered (met st e.arrival) after C port t seconds
 repeat_answered list st after e lived h C port t seconds r =
     rw h.state_is
-    (answered_by (met st e.arrival) (counted [] list) (lived_accounts list empty st [] lived held_empty accounts_empty) (met_fits st e.arrival (slots_fit list empty st lived empty_fits)) C port t seconds r.lasting e.arrival
+    (answered_by (met st e.arrival) (counted [] list) (lived_accounts list empty st [] lived accounts_empty) (met_fits st e.arrival (slots_fit list empty st lived empty_fits)) C port t seconds r.lasting e.arrival
     (rw (h.outcome_is, h.reply_is) at r.answered))
 
 -- ---- The clock alone
@@ -310,7 +293,7 @@ repeat_tells list st after e lived h C port t seconds r = record { given = rw (x
     past = counted [] list
 
     I : AccountsFor past st
-    I = lived_accounts list empty st [] lived held_empty accounts_empty
+    I = lived_accounts list empty st [] lived accounts_empty
 
     x : Answered (met st e.arrival) after C port t seconds
     x = repeat_answered list st after e lived h C port t seconds r

@@ -17,7 +17,6 @@ use Rattle.stun.specs.declared.kinds.Method.TheVariants.{Allocate, Refresh, Crea
 use Rattle.stun.specs.Kinds.{error_type}
 use Rattle.stun.specs.Message.{unknown_types}
 use Rattle.stun.specs.Values.{transaction_id_of, peers, first_peer}
-use Rattle.messages.specs.declared.Reservation.{Reservation}
 use Rattle.messages.specs.Messages.{message_bytes, error_code_attribute, unknown_attribute, error_response, unknown_response, allocate_success, refresh_success, bare_success}
 use Rattle.rules.specs.declared.answer.Outcome.TheVariants.{ToClient, ToPeer}
 use Rattle.interface.specs.Sending as Sending
@@ -25,7 +24,7 @@ use Rattle.rules.specs.Change.{Cause, permission_lapsed, never_permitted, other_
 use Rattle.interface.specs.declared.incoming.Call.TheVariants.{Client}
 use Rattle.interface.specs.declared.incoming.FromClient.{FromClient}
 use Rattle.client_reader.specs.declared.ReadMessage.{ReadMessage}
-use Rattle.client_reader.specs.Fields.{Bytes, IdFits, ReservationFits, written, plain}
+use Rattle.client_reader.specs.Fields.{Bytes, IdFits, written, plain}
 use Rattle.client_reader.specs.declared.Message.{Message}
 use Rattle.client_reader.specs.declared.Message.TheVariants.{AllocateSuccess, RefreshSuccess, BareSuccess, Error, UnknownAttributes, DataIndication, ChannelData, Nothing}
 use Rattle.client_reader.specs.Inner.{count_fits, all_below, types_of, unknown_of, when, error_fields, unknown_fields, plain_error_fields, code_of, fields_of, same_bytes, checked}
@@ -165,11 +164,11 @@ module _ (call : FromClient) (s reply : List ℕ) (h : Bytes s) where
       → counts_as call s r.message ≡ pick (asks method s) c nothing → asks method s ≡ true → Counts message ≡ c
   counts_asked message method c e is asked = counts-sent message e ∙ is ∙ ap (λ (b : Bool). pick b c nothing) asked
 
-  pub allocate-counts : (port seconds : ℕ) (reservation : Reservation) → call.relay < 2 ^ 32 → port < 2 ^ 16 → seconds < 2 ^ 32 → ReservationFits reservation
-      → TransportFits call.five_tuple.client → asks Allocate s ≡ true
-      → Counts (allocate_success (transaction_id_of s) call.relay port seconds reservation call.five_tuple.client) ≡ gave call.five_tuple port call.time seconds
-  allocate-counts port seconds reservation hr hp hs ht hc =
-      counts_asked _ Allocate _ (read_allocate (transaction_id_of s) (id_fits s h) call.relay port seconds reservation call.five_tuple.client hr hp hs ht hc.0 hc.1) refl
+  pub allocate-counts : (port seconds : ℕ) → call.relay < 2 ^ 32 → port < 2 ^ 16 → seconds < 2 ^ 32 → TransportFits call.five_tuple.client
+      → asks Allocate s ≡ true
+      → Counts (allocate_success (transaction_id_of s) call.relay port seconds call.five_tuple.client) ≡ gave call.five_tuple port call.time seconds
+  allocate-counts port seconds hr hp hs hc =
+      counts_asked _ Allocate _ (read_allocate (transaction_id_of s) (id_fits s h) call.relay port seconds call.five_tuple.client hr hp hs hc.0 hc.1) refl
 
   pub refresh-counts : (seconds : ℕ) → seconds < 2 ^ 32 → asks Refresh s ≡ true
       → Counts (refresh_success (transaction_id_of s) seconds) ≡ kept call.five_tuple call.time seconds
@@ -186,7 +185,7 @@ module _ (call : FromClient) (s reply : List ℕ) (h : Bytes s) where
 -- ---- An Allocate of a client whose lifetime lasts counts as nothing, whatever comes back
 module _ (call : FromClient) (s : List ℕ) (past : List Counted) (asked : asks Allocate s ≡ true) (lasts : granted past call.five_tuple call.time ≡ true) where
   message_left_out : (m : Message) → without_repeats past (counts_as call s m) ≡ nothing
-  message_left_out (AllocateSuccess id relay port seconds reservation client) = rw (asked, lasts)
+  message_left_out (AllocateSuccess id relay port seconds client) = rw (asked, lasts)
   message_left_out (RefreshSuccess id seconds) = rw (asks_no_other Allocate Refresh s refl asked)
   message_left_out (BareSuccess Allocate id) = refl
   message_left_out (BareSuccess Refresh id) = refl

@@ -12,24 +12,23 @@ use Rattle.address.specs.declared.TransportAddress.{TransportAddress}
 use Rattle.address.specs.Address.{same_address, same_transport_address, same_five_tuple}
 use Rattle.stun.specs.Kinds.{attribute_kind_of}
 use Rattle.stun.specs.Message.{sorted, next_at, step_at, walk_f, walk, is_well_formed, is_integrity, is_unknown, attributes_from, first_of, unknown_numbers, unknown_types}
-use Rattle.stun.specs.Values.{transaction_id_of, v4_at, address_at, peers_of, peers_from, number_value, even_port, reservation_token}
+use Rattle.stun.specs.Values.{transaction_id_of, v4_at, address_at, peers_of, peers_from, number_value}
 use Rattle.messages.specs.Messages.{allocate_success, bare_success, data_indication}
 use Rattle.slot.specs.Search.{find, entry, put_at, at_or}
 use Rattle.slot.specs.Slot.{live_allocation, live_permission, fresh_slot, is_channel_number, live_channel, holds, holds_user, holds_port, permits, entered, permission_state, free_permission, permission_entry, permit, leads_to}
-use Rattle.hold.specs.Hold.{live_hold, free_hold, keeps_port, under, made_by, remembers, forgetting, next_port, new_hold, after_allocate}
 use Rattle.table.specs.Table.{slot_at, count}
 use Rattle.rules.specs.declared.answer.Outcome.TheVariants.{DroppedLapsed, ToClient}
 use Rattle.rules.specs.Change.{check, respond}
 use Rattle.rules.specs.Values.{any_unknown, malformed_peer, ipv6_peer}
 use Rattle.rules.specs.Requests.{request_code, own_code}
-use Rattle.allocation_rules.specs.Allocations.{repeats, allocate_code, allocated, allocate, port_wanted, first_free, port_for, searched_port}
+use Rattle.allocation_rules.specs.Allocations.{repeats, allocate_code, allocated, allocate, first_free, port_for}
 use Rattle.permission_rules.specs.Permissions.{permit_peer, permit_all, create_permission_code, create_permission}
 use Rattle.data_rules.specs.Data.{permission_of, unless_dropped, relayed, peer_cause, relay_from_peer}
 use Rattle.decisions.specs.Client.{asked_by}
 use Rattle.denied.specs.Tree.{denied_below, denied, none_denied}
 use Rattle.state.specs.State.{State, empty}
 use Rattle.interface.specs.Refusals.{client_datagram, peer_datagram, refusal}
-use Rattle.decisions.specs.Decisions.{is_held, ports_held, decided, holds_after}
+use Rattle.decisions.specs.Decisions.{ports_held, decided}
 use Rattle.state.specs.Step.{accepted, act}
 use Rattle.client_reader.specs.Fields.{Bytes}
 use Rattle.client_reader.specs.Inner.{all_below}
@@ -71,21 +70,21 @@ data_bytes_lem = all_below_lem 256 data_bytes (lit< tt) refl
 
 abbrev pub allocating : Arrival
 allocating = record {
-  call = client_datagram 1000 3 5 0xcb00_7105 caller 0;
+  call = client_datagram 1000 3 5 0xcb00_7105 caller;
   datagram = allocate_bytes;
   reply = room;
   denied = none_denied;
-  call_fits = (lit< tt, (lit< tt, lit< tt), (lit< tt, lit< tt), lit< tt, lit< tt, lit< tt, lit< tt, lit< tt);
+  call_fits = (lit< tt, (lit< tt, lit< tt), (lit< tt, lit< tt), lit< tt, lit< tt, lit< tt, lit< tt);
   bytes = allocate_bytes_lem;
 }
 
 abbrev permitting : Arrival
 permitting = record {
-  call = client_datagram 1010 3 0 0xcb00_7105 caller 0;
+  call = client_datagram 1010 3 0 0xcb00_7105 caller;
   datagram = permission_bytes;
   reply = room;
   denied = none_denied;
-  call_fits = (lit< tt, (lit< tt, lit< tt), (lit< tt, lit< tt), lit< tt, lit< tt, lit< tt, lit< tt, lit< tt);
+  call_fits = (lit< tt, (lit< tt, lit< tt), (lit< tt, lit< tt), lit< tt, lit< tt, lit< tt, lit< tt);
   bytes = permission_bytes_lem;
 }
 
@@ -117,7 +116,7 @@ pub record Sample : Type 0 where
       ≡ record { user = 3; five_tuple = caller; port = 49157; expiry = 1600 }
 
 pub sample : Sample
-unfolding act refusal asked_by sorted is_well_formed walk walk_f step_at next_at num decided allocate respond repeats allocate_code request_code check any_unknown unknown_types unknown_numbers attributes_from is_integrity is_unknown attribute_kind_of find holds holds_user holds_port live_allocation both same_five_tuple same_transport_address same_address fresh_slot number_value first_of count port_for first_free ports_held allocated allocate_success bytes_of transaction_id_of accepted create_permission create_permission_code own_code permit_all permit_peer permit permission_entry entry put_at permits free_permission live_permission any malformed_peer ipv6_peer peers_from peers_of address_at v4_at bare_success relay_from_peer peer_cause unless_dropped permission_of permission_state entered relayed leads_to live_channel is_channel_number at_or data_indication denied denied_below is_held searched_port port_wanted even_port reservation_token holds_after after_allocate forgetting next_port new_hold live_hold free_hold keeps_port under made_by remembers
+unfolding act refusal asked_by sorted is_well_formed walk walk_f step_at next_at num decided allocate respond repeats allocate_code request_code check any_unknown unknown_types unknown_numbers attributes_from is_integrity is_unknown attribute_kind_of find holds holds_user holds_port live_allocation both same_five_tuple same_transport_address same_address fresh_slot number_value first_of count port_for first_free ports_held allocated allocate_success bytes_of transaction_id_of accepted create_permission create_permission_code own_code permit_all permit_peer permit permission_entry entry put_at permits free_permission live_permission any malformed_peer ipv6_peer peers_from peers_of address_at v4_at bare_success relay_from_peer peer_cause unless_dropped permission_of permission_state entered relayed leads_to live_channel is_channel_number at_or data_indication denied denied_below
 sample = record {
   allocate_line = record { to = refl; holds = refl };
   permission_line_lem = record { to = refl; holds = refl };

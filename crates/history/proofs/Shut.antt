@@ -19,7 +19,6 @@ use Rattle.history.specs.Statement.{Live, Lasts, FromAddress, Comes, To}
 use Rattle.history.proofs.Readings.{Given, Granted, Allowed, goes→, goes←}
 use Rattle.history.proofs.Table as table
 use Rattle.history.proofs.Table.{AccountsFor, accounts_later}
-use Rattle.history.proofs.Held.{HeldFor, happened_held, lived_held}
 use Rattle.history.proofs.Whole.{Moved, refused, changed, moves, refused_counts, happened_accounts, lived_accounts}
 use Rattle.history.proofs.Demand.{lived_middle, demand_3_from}
 use Rattle.history.proofs.Corollaries.{NoneFor, counted-append}
@@ -43,15 +42,15 @@ allowed_before (nothing ∷ h) C a u t le x = allowed_before h C a u t le x
 -- ---- One call
 
 -- a Refresh is accepted only while the last lifetime lasts
-refresh_lasted : (st : State) (a : Arrival) (past : List Counted) → HeldFor st → AccountsFor past st → (x : Act) → Moved st a x → (C : FiveTuple) (s n : ℕ)
+refresh_lasted : (st : State) (a : Arrival) (past : List Counted) → AccountsFor past st → (x : Act) → Moved st a x → (C : FiveTuple) (s n : ℕ)
     → without_repeats past (counts_by a.call a.datagram (outcome_of x) (reply_after a.reply x)) ≡ kept C s n → (clock_of st ≤ s) × Granted past C s
-refresh_lasted st a past H I x (refused number e) C s n q =
+refresh_lasted st a past I x (refused number e) C s n q =
     let r = refused_counts a.call a.datagram number a.reply in
     let k : nothing ≡ kept C s n = sym (ap (without_repeats past) r) ∙ rw e at q in
     let z : ◌≡◌ {A = ℕ} 0 1 = cc in
     let y : ⊥ = omega arith in
     absurd y
-refresh_lasted st a past H I x (changed le clock c) C s n q = go (rw q at (c H.fit past (accounts_later _ _ _ past le I)))
+refresh_lasted st a past I x (changed le clock c) C s n q = go (rw q at (c past (accounts_later _ _ _ past le I)))
   where
     now : ℕ
     now = time_of a.call
@@ -103,17 +102,17 @@ module _ (C : FiveTuple) (R : ℕ) (a : Address) where
   open_before past t nothing none again o = o
 
   -- and so it did before all of them
-  open_since : (more : List Event) (st last : State) (past : List Counted) (t u : ℕ) → Lived st more last → HeldFor st → AccountsFor past st → NoneFor C a past more
+  open_since : (more : List Event) (st last : State) (past : List Counted) (t u : ℕ) → Lived st more last → AccountsFor past st → NoneFor C a past more
       → t ≤ clock_of st → t ≤ u → Open (counted past more) u → Open past t
-  open_since [] st last past t u l H I none le later o = (o.0, granted_before past C t u later o.1, allowed_before past C a t u later o.2)
-  open_since (e ∷ more) st last past t u l H I none le later o =
+  open_since [] st last past t u l I none le later o = (o.0, granted_before past C t u later o.1, allowed_before past C a t u later o.2)
+  open_since (e ∷ more) st last past t u l I none le later o =
       let m = moves st e.arrival in
       let h = l.1 in
       let rises = clock_rises (met st e.arrival) e.arrival (acts st e.arrival) m in
       let on : t ≤ clock_of l.0 = rw h.state_is (omega arith) in
-      let next = open_since more l.0 last (counts past e ∷ past) t u l.2 (happened_held st e l.0 h H) (happened_accounts st e l.0 past h H I) none.1 on later o in
+      let next = open_since more l.0 last (counts past e ∷ past) t u l.2 (happened_accounts st e l.0 past h I) none.1 on later o in
       open_before past t (counts past e) none.0
-      (λ s n q. let r = refresh_lasted (met st e.arrival) e.arrival past H I (acts st e.arrival) m C s n (rw (h.outcome_is, h.reply_is) at q) in granted_before past C t s (omega (arith, r.0)) r.1)
+      (λ s n q. let r = refresh_lasted (met st e.arrival) e.arrival past I (acts st e.arrival) m C s n (rw (h.outcome_is, h.reply_is) at q) in granted_before past C t s (omega (arith, r.0)) r.1)
       next
 
 -- ---- The theorem
@@ -141,23 +140,22 @@ peer_counts past e R a t from = rw from.2
 
 -- where a later datagram from that address to that port goes to C, so did an earlier one, unless a request of C for the address was accepted in
 -- between: what was shut stays shut
-pub never_reopens : (first last : State) (past : List Counted) (list : List Event) → HeldFor first → AccountsFor past first → Lived first list last
+pub never_reopens : (first last : State) (past : List Counted) (list : List Event) → AccountsFor past first → Lived first list last
     → (before more : List Event) (e later : Event) (R x t u : ℕ) → Comes list before e R (V4 x) t → Comes list (before ++ e ∷ more) later R (V4 x) u
     → (C : FiveTuple) → NoneFor C (V4 x) (counted past (before ++ e ∷ [])) more → To C later → To C e
-never_reopens first last past list H I lived before more e later R x t u c d C none sent =
-    let demand = demand_3_from first past H I list last lived in
+never_reopens first last past list I lived before more e later R x t u c d C none sent =
+    let demand = demand_3_from first past I list last lived in
     let end = lived_middle (before ++ e ∷ more) (later ∷ d.after) first last (rw d.split at lived) in
     let start = lived_middle before (e ∷ more) first end.0 end.1 in
     let happened = start.2.1 in
     let was = counted past before in
-    let accounts = lived_accounts before first start.0 past start.1 H I in
-    let held = lived_held before first start.0 start.1 H in
+    let accounts = lived_accounts before first start.0 past start.1 I in
     let now = peer_clock start.0 start.2.0 e R (V4 x) t happened c.from c.not_refused in
     let then = peer_clock end.0 end.2.0 later R (V4 x) u end.2.1 d.from d.not_refused in
     let on = clock_rises_on more start.2.0 end.0 start.2.2 in
     let g = goes→ _ C R (V4 x) u ((demand.goes_to (before ++ e ∷ more) later R x u d C).0 sent) in
     let o : Open C R (V4 x) (counts was e ∷ was) t = open_since C R (V4 x) more start.2.0 end.0 (counts was e ∷ was) t u start.2.2
-    (happened_held start.0 e start.2.0 happened held) (happened_accounts start.0 e start.2.0 was happened held accounts)
+    (happened_accounts start.0 e start.2.0 was happened accounts)
     (rw (counted-append past before (e ∷ [])) at none)
     now.1
     (omega (arith, now.1, then.0, on))

@@ -11,7 +11,6 @@ use Rattle.wire.specs.Wire.{part_of}
 use Rattle.choice.specs.Choice.{pick}
 use Rattle.address.specs.declared.TransportAddress.{TransportAddress}
 use Rattle.slot.specs.declared.Slot.{Slot}
-use Rattle.hold.specs.declared.Hold.{Hold}
 use Rattle.slot.specs.declared.Found.{Found}
 use Rattle.slot.specs.declared.Found.TheVariants.{At, Nothing}
 use Rattle.rules.specs.declared.answer.Outcome.TheVariants.{ToPeer}
@@ -28,7 +27,7 @@ use Rattle.state.specs.Outcomes.{Act, refuse, accept, outcome_of}
 use Rattle.interface.specs.Refusals.{time_of, lengths, refusal}
 use Rattle.interface.specs.Sending.{sent}
 use Rattle.decisions.specs.Decisions.{as_rules, room_for, on_asked, decided}
-use Rattle.state.specs.Step.{done, decision, holding, accepted, act}
+use Rattle.state.specs.Step.{done, decision, accepted, act}
 use Rattle.state.proofs.Laws.{acted}
 use Rattle.relay.proofs.Laws.{none_of}
 use Rattle.history.proofs.Replies.{dropped_sends, dropped_not_relayed}
@@ -38,19 +37,19 @@ abbrev ActFits : List ℕ → Act → Type 0
 ActFits s (refuse number) = Unit
 ActFits s (accept next out) = (length s ≤ 1500) × Fits s out
 
-asked_fits : (denied : Bool) (holds : List Hold) (call : FromClient) (s : List ℕ) (slots : List Slot) (asked : Asked) → Fits s (out_of (on_asked denied holds call s slots asked).change)
-asked_fits denied holds call s slots Asked.Allocate = allocate_fits (as_rules call) s (room_for call s slots holds) _
-asked_fits denied holds call s slots Asked.Refresh = refresh_fits (as_rules call) s _ _
-asked_fits denied holds call s slots Asked.CreatePermission = create_permission_fits (as_rules call) s _ _ _
-asked_fits denied holds call s slots Asked.ChannelBind = channel_bind_fits (as_rules call) s _ _ _
-asked_fits denied holds call s slots Asked.Send = send_fits (as_rules call) s _ _
-asked_fits denied holds call s slots Asked.ChannelData = channelled_fits (as_rules call) s _ _
-asked_fits denied holds call s slots Asked.Nothing = tt
+asked_fits : (denied : Bool) (call : FromClient) (s : List ℕ) (slots : List Slot) (asked : Asked) → Fits s (out_of (on_asked denied call s slots asked).change)
+asked_fits denied call s slots Asked.Allocate = allocate_fits (as_rules call) s (room_for call slots) _
+asked_fits denied call s slots Asked.Refresh = refresh_fits (as_rules call) s _ _
+asked_fits denied call s slots Asked.CreatePermission = create_permission_fits (as_rules call) s _ _ _
+asked_fits denied call s slots Asked.ChannelBind = channel_bind_fits (as_rules call) s _ _ _
+asked_fits denied call s slots Asked.Send = send_fits (as_rules call) s _ _
+asked_fits denied call s slots Asked.ChannelData = channelled_fits (as_rules call) s _ _
+asked_fits denied call s slots Asked.Nothing = tt
 
-decided_fits : (denied : Bool) (holds : List Hold) (call : Call) (s : List ℕ) (slots : List Slot) → length s ≤ 1500 → Fits s (out_of (decided denied holds call s slots).change)
+decided_fits : (denied : Bool) (call : Call) (s : List ℕ) (slots : List Slot) → length s ≤ 1500 → Fits s (out_of (decided denied call s slots).change)
 unfolding decided
-decided_fits denied holds (Client call) s slots h = asked_fits denied holds call s slots (asked_by s)
-decided_fits denied holds (Peer call) s slots h = from_peer_fits call.time call.source call.id s _ _ h
+decided_fits denied (Client call) s slots h = asked_fits denied call s slots (asked_by s)
+decided_fits denied (Peer call) s slots h = from_peer_fits call.time call.source call.id s _ _ h
 
 done_fits : (s : List ℕ) (st : State) (found : Found) (change : Change) → length s ≤ 1500 → Fits s (out_of change) → ActFits s (done st found change)
 done_fits s st (At k) (keep out) h f = (h, f)
@@ -70,7 +69,7 @@ unfolding accepted
 act_fits st call s reply =
     acted (ActFits s) st call s reply (λ number. tt)
     (λ e. let h = not_long (clock_of st) (length st.slots) reply s call e in
-    done_fits s (at_time (time_of call) (holding st call s)) (decision st call s).place (decision st call s).change h (decided_fits _ _ call s st.slots h))
+    done_fits s (at_time (time_of call) st) (decision st call s).place (decision st call s).change h (decided_fits _ call s st.slots h))
 
 -- a part of n bytes or none has n bytes at most
 part_short : (b : Bool) (n : ℕ) (l : List ℕ) → length (pick b (take n l) []) ≤ n

@@ -19,7 +19,7 @@ use Rattle.permission_rules.specs.Permissions.{permit_peer, permit_all}
 use Rattle.interface.specs.Refusals.{time_of}
 use Rattle.state.specs.State.{State, clock_of, at_time}
 use Rattle.state.specs.Outcomes.{Act, state_after}
-use Rattle.state.specs.Step.{done, decision, holding, accepted}
+use Rattle.state.specs.Step.{done, decision, accepted}
 use Rattle.state.proofs.Laws.{acted}
 use Rattle.relay.proofs.Laws.{Accepted, not_refused}
 use Rattle.history.specs.Events.{Arrival, met, next}
@@ -66,7 +66,7 @@ module _ (P : Slot → Type 0) where
   abbrev pub Writes : Change → Type 0
   Writes change = (slot : Slot) (out : Out) → change ≡ write slot out → P slot
 
-  pub done_keeps : (was st : State) (found : Found) (change : Change) → ((i : ℕ) → P (slot_at st.slots i)) → Writes change
+  done_keeps : (was st : State) (found : Found) (change : Change) → ((i : ℕ) → P (slot_at st.slots i)) → Writes change
       → (i : ℕ) → P (slot_at (state_after was (done st found change)).slots i)
   done_keeps was st (At k) (keep out) f w = f
   done_keeps was st (At k) (write slot out) f w = set_keeps P fresh_slot slot (w slot out refl) st.slots k f
@@ -79,5 +79,5 @@ module _ (P : Slot → Type 0) where
   unfolding accepted
   next_keeps st a f w =
       acted (λ (x : Act). (i : ℕ) → P (slot_at (state_after (met st a) x).slots i)) (met st a) a.call a.datagram (length a.reply) (λ number. f)
-      (λ e. done_keeps (met st a) (at_time (time_of a.call) (holding (met st a) a.call a.datagram)) (decision (met st a) a.call a.datagram).place (decision (met st a) a.call a.datagram).change f
+      (λ e. done_keeps (met st a) (at_time (time_of a.call) (met st a)) (decision (met st a) a.call a.datagram).place (decision (met st a) a.call a.datagram).change f
       (w (not_refused (clock_of st) st.slots a.datagram a.reply a.call e)))

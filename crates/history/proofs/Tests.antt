@@ -24,10 +24,8 @@ use Rattle.slot.specs.declared.Found.{Found}
 use Rattle.slot.specs.declared.Found.TheVariants.{At, Nothing}
 use Rattle.slot.specs.Search.{further, find, has, or_else, entry}
 use Rattle.slot.specs.Slot.{live_allocation, fresh_permission, fresh_channel, fresh_slot, live_permission, free_permission, permits, entered, permission_state, is_channel_number, live_channel, numbered, leads_to, holds, holds_port}
-use Rattle.hold.specs.declared.Hold.{Hold}
-use Rattle.hold.specs.Hold.{fresh_hold, live_hold, free_hold, keeps_port, under}
 use Rattle.table.specs.Table.{slot_at, in_slot, lapsed}
-use Rattle.history.specs.Statement.{permission_at, channel_at, Live, LiveChannel, hold_at, LiveHold}
+use Rattle.history.specs.Statement.{permission_at, channel_at, Live, LiveChannel}
 use Rattle.history.proofs.Table.{HasPermission}
 
 pub clash : {A : Type 0} (b : Bool) → b ≡ true → b ≡ false → A
@@ -118,19 +116,6 @@ module _ (t : ℕ) where
       → (slot_at l i).allocation.port ≢ R
   unfolding holds_port live_allocation fresh_slot
   none_port R l e i x = eqb-false _ _ (both_not _ _ (find_none (in_slot (holds_port t R)) l fresh_slot (dead _) e i) (lt-ltb _ _ x))
-
-  -- ---- Holds
-  pub under_is : (token : ℕ) (hold : Hold) → under t token hold ≡ true → LiveHold t hold × (hold.token ≡ token)
-  unfolding under live_hold
-  under_is token hold e = let r = both_parts _ _ e in (ltb-true _ _ r.0, eqb-true _ _ r.1)
-
-  pub hold_free : (hold : Hold) → free_hold t hold ≡ true → hold.expiry ≤ t
-  unfolding free_hold live_hold
-  hold_free hold e = ltb-false _ _ (not-true _ e)
-
-  pub none_keeps : (R : ℕ) (l : List Hold) → find (keeps_port t R) l ≡ Nothing → (i : ℕ) → LiveHold t (hold_at l i) → (hold_at l i).port ≢ R
-  unfolding keeps_port live_hold
-  none_keeps R l e i x = eqb-false _ _ (both_not _ _ (find_none (keeps_port t R) l fresh_hold (dead _) e i) (lt-ltb _ _ x))
 
   -- ---- Permissions
   pub permission_is : (a : Address) (p : Permission) → permits t a p ≡ true → (t < p.expiry) × (p.address ≡ a)

@@ -14,7 +14,6 @@ use Rattle.address.specs.declared.FiveTuple.{FiveTuple}
 use Rattle.address.specs.declared.TransportAddress.{TransportAddress}
 use Rattle.address.specs.declared.TransactionId.{TransactionId}
 use Rattle.slot.specs.declared.Slot.{Slot}
-use Rattle.hold.specs.declared.Hold.{Hold}
 use Rattle.slot.specs.declared.permissions.PermissionState.{PermissionState}
 use Rattle.slot.specs.declared.permissions.PermissionState.TheVariants as PermissionState
 use Rattle.slot.specs.declared.Found.{Found}
@@ -33,18 +32,17 @@ use Rattle.decisions.specs.Client.{asked_by}
 use Rattle.interface.specs.declared.incoming.Call.{Call}
 use Rattle.interface.specs.declared.incoming.Call.TheVariants.{Client, Peer}
 use Rattle.interface.specs.declared.incoming.FromPeer.{FromPeer}
-use Rattle.state.specs.State.{State, empty, clock_of, at_time, holds_in, with_holds}
+use Rattle.state.specs.State.{State, empty, clock_of, at_time}
 use Rattle.state.specs.Outcomes.{Act, refuse, accept, outcome_of, reply_after, state_after}
 use Rattle.interface.specs.Refusals.{time_of}
-use Rattle.decisions.specs.Decisions.{Decision, names_denied, on_asked, decided, holds_on_asked, holds_after}
-use Rattle.state.specs.Step.{done, accepted}
+use Rattle.decisions.specs.Decisions.{names_denied, on_asked, decided}
+use Rattle.state.specs.Step.{done, decision, accepted}
 use Rattle.state.proofs.Laws.{acted}
 use Rattle.relay.proofs.Laws.{not_refused}
 use Rattle.history.specs.Counted.{Counted, nothing, without_repeats}
 use Rattle.client_reader.specs.Fields.{Bytes}
 use Rattle.history.specs.Events.{CallFits, Arrival, met, acts, outcome, replied, next, Event, Happened, Lived, counts_by, counts, counted}
-use Rattle.history.specs.Statement.{Live, Apart, hold_at, GoesTo, FromAddress}
-use Rattle.history.specs.Fits.{HoldFits}
+use Rattle.history.specs.Statement.{Live, Apart, GoesTo, FromAddress}
 use Rattle.history.proofs.Readings.{given_holder, goes→, goes←}
 use Rattle.history.proofs.Table as table
 use Rattle.history.proofs.Table.{HasPermission, Accounts, AccountsFor, own_port, accounts_later, Reach, reach→, reach←}
@@ -52,7 +50,6 @@ use Rattle.history.proofs.Keep.{keep as keep-accounts}
 use Rattle.history.proofs.Replies.{dropped_not_sent}
 use Rattle.history.proofs.Tests.{find_some, port_is, none_port, Says, lookup_says}
 use Rattle.history.proofs.Made.{quiet, made_asked}
-use Rattle.history.proofs.Held.{HeldFor, clock_accepted, happened_held}
 
 -- ---- The empty relay
 none-live : (i : ℕ) → Live 0 (slot_at empty.slots i) → ⊥
@@ -77,6 +74,16 @@ pub refused_counts : (call : Call) (s : List ℕ) (number : ℕ) (reply : List �
 refused_counts (Client call) s number reply = refl
 refused_counts (Peer call) s number reply = refl
 
+-- a call that is not refused sets the clock
+clock_accepted : (st : State) (call : Call) (s : List ℕ) → clock_of (state_after st (accepted st call s)) ≡ time_of call
+unfolding accepted
+clock_accepted st call s = go (decision st call s).place (decision st call s).change
+  where
+    go : (found : Found) (change : Change) → clock_of (state_after st (done (at_time (time_of call) st) found change)) ≡ time_of call
+    go (At k) (keep out) = refl
+    go (At k) (write slot out) = refl
+    go Nothing change = refl
+
 -- a peer's datagram changes no slot
 pub done_keep : (st : State) (found : Found) (out : Out) → done st found (keep out) ≡ accept st out
 done_keep st (At k) out = refl
@@ -88,54 +95,42 @@ peer_out call l s =
     relay_from_peer call.time call.source call.id s (has found) (at_or fresh_slot found l)
 
 peer_stays : (call : FromPeer) (st : State) (s : List ℕ) → accepted st (Peer call) s ≡ accept (at_time call.time st) (peer_out call st.slots s)
-unfolding accepted decided holds_after peer_out
+unfolding accepted decided peer_out
 peer_stays call st s = done_keep (at_time call.time st) (find (in_slot (holds_port call.time call.port)) st.slots) _
 
 -- what an accepted call does to the table
-made : (call : Call) (st : State) (s reply : List ℕ) → CallFits call → Bytes s → ((i : ℕ) → HoldFits (hold_at (holds_in st) i))
+made : (call : Call) (st : State) (s reply : List ℕ) → length st.slots ≡ 64 → CallFits call → Bytes s
     → (past : List Counted) → Accounts (time_of call) (slot_at st.slots) past
     → table.Change (time_of call) (slot_at st.slots) (slot_at (state_after st (accepted st call s)).slots)
     (without_repeats past (counts_by call s (outcome_of (accepted st call s)) (reply_after reply (accepted st call s))))
-unfolding accepted decided holds_after
-made (Client call) st s reply fits bytes fit past I = go (asked_by s) refl
+unfolding accepted decided
+made (Client call) st s reply full fits bytes past I = go (asked_by s) refl
   where
     denied : Bool
     denied = names_denied st.bookkeeping.denied (Client call) s
 
-    -- the state at its time, with the holds that it leaves
-    now : List Hold → State
-    now held = at_time call.time (with_holds held st)
-
     -- an act that is not a refusal says itself what state it leaves
-    same : (held : List Hold) (found : Found) (change : Change)
-        → table.Change call.time (slot_at st.slots) (slot_at (state_after (now held) (done (now held) found change)).slots)
-        (without_repeats past (counts_by (Client call) s (outcome_of (done (now held) found change)) (reply_after reply (done (now held) found change))))
-        → table.Change call.time (slot_at st.slots) (slot_at (state_after st (done (now held) found change)).slots)
-        (without_repeats past (counts_by (Client call) s (outcome_of (done (now held) found change)) (reply_after reply (done (now held) found change))))
-    same held (At k) (keep out) c = c
-    same held (At k) (write slot out) c = c
-    same held Nothing change c = c
-
-    decides : Asked → Decision
-    decides asked = on_asked denied (holds_in st) call s st.slots asked
-
-    left : Asked → State
-    left asked = now (holds_on_asked call s asked (decides asked).change (holds_in st))
+    same : (found : Found) (change : Change)
+        → table.Change call.time (slot_at st.slots) (slot_at (state_after (at_time call.time st) (done (at_time call.time st) found change)).slots)
+        (without_repeats past (counts_by (Client call) s (outcome_of (done (at_time call.time st) found change)) (reply_after reply (done (at_time call.time st) found change))))
+        → table.Change call.time (slot_at st.slots) (slot_at (state_after st (done (at_time call.time st) found change)).slots)
+        (without_repeats past (counts_by (Client call) s (outcome_of (done (at_time call.time st) found change)) (reply_after reply (done (at_time call.time st) found change))))
+    same (At k) (keep out) c = c
+    same (At k) (write slot out) c = c
+    same Nothing change c = c
 
     go : (asked : Asked) → asked_by s ≡ asked → table.Change call.time (slot_at st.slots)
-        (slot_at (state_after st (done (left asked) (decides asked).place (decides asked).change)).slots)
-        (without_repeats past (counts_by (Client call) s (outcome_of (done (left asked) (decides asked).place (decides asked).change))
-        (reply_after reply (done (left asked) (decides asked).place (decides asked).change))))
-    go asked is =
-        same (holds_on_asked call s asked (decides asked).change (holds_in st)) (decides asked).place (decides asked).change
-        (made_asked call (left asked) s reply (holds_in st) fit fits bytes past I denied asked is)
-made (Peer call) st s reply fits bytes fit past I = rw (peer_stays call st s) (quiet call.time (slot_at st.slots))
+        (slot_at (state_after st (done (at_time call.time st) (on_asked denied call s st.slots asked).place (on_asked denied call s st.slots asked).change)).slots)
+        (without_repeats past (counts_by (Client call) s (outcome_of (done (at_time call.time st) (on_asked denied call s st.slots asked).place (on_asked denied call s st.slots asked).change))
+        (reply_after reply (done (at_time call.time st) (on_asked denied call s st.slots asked).place (on_asked denied call s st.slots asked).change))))
+    go asked is = same (on_asked denied call s st.slots asked).place (on_asked denied call s st.slots asked).change (made_asked call (at_time call.time st) s reply full fits bytes past I denied asked is)
+made (Peer call) st s reply full fits bytes past I = rw (peer_stays call st s) (quiet call.time (slot_at st.slots))
 
 -- what a call does to the table: nothing, where it is refused; else a change at its time, which what it counts as allows, by what was counted before
 pub data Moved (st : State) (a : Arrival) (x : Act) : Type 0 where
   refused : (number : ℕ) → x ≡ refuse number → Moved st a x
   changed : clock_of st ≤ time_of a.call → clock_of (state_after st x) ≡ time_of a.call
-      → (((i : ℕ) → HoldFits (hold_at (holds_in st) i)) → (past : List Counted) → Accounts (time_of a.call) (slot_at st.slots) past
+      → ((past : List Counted) → Accounts (time_of a.call) (slot_at st.slots) past
       → table.Change (time_of a.call) (slot_at st.slots) (slot_at (state_after st x).slots)
       (without_repeats past (counts_by a.call a.datagram (outcome_of x) (reply_after a.reply x))))
       → Moved st a x
@@ -145,28 +140,28 @@ moves st a =
     acted (Moved (met st a) a) (met st a) a.call a.datagram (length a.reply) (λ number. refused number refl)
     (λ e. let w = not_refused (clock_of st) st.slots a.datagram a.reply a.call e in
     changed w.not_before (clock_accepted (met st a) a.call a.datagram)
-    (made a.call (met st a) a.datagram a.reply a.call_fits a.bytes))
+    (made a.call (met st a) a.datagram a.reply w.sixty_four a.call_fits a.bytes))
 
 -- so what was counted accounts for the state after it
-after_call : (st : State) (a : Arrival) (past : List Counted) → HeldFor st → AccountsFor past st
+after_call : (st : State) (a : Arrival) (past : List Counted) → AccountsFor past st
     → AccountsFor (without_repeats past (counts_by a.call a.datagram (outcome st a) (replied st a)) ∷ past) (next st a)
-after_call st a past H I = go (acts st a) (moves st a)
+after_call st a past I = go (acts st a) (moves st a)
   where
     go : (x : Act) → Moved (met st a) a x → AccountsFor (without_repeats past (counts_by a.call a.datagram (outcome_of x) (reply_after a.reply x)) ∷ past) (state_after (met st a) x)
     go x (refused number e) =
         rw (e, refused_counts a.call a.datagram number a.reply) (keep-accounts _ _ _ _ past nothing (le_refl _) I (quiet _ _))
-    go x (changed le clock c) = rw clock (keep-accounts _ (time_of a.call) _ _ past _ le I (c H.fit past (accounts_later _ _ _ past le I)))
+    go x (changed le clock c) = rw clock (keep-accounts _ (time_of a.call) _ _ past _ le I (c past (accounts_later _ _ _ past le I)))
 
 -- ---- Every list of calls
-pub happened_accounts : (before : State) (e : Event) (after : State) (past : List Counted) → Happened before e after → HeldFor before → AccountsFor past before
+pub happened_accounts : (before : State) (e : Event) (after : State) (past : List Counted) → Happened before e after → AccountsFor past before
     → AccountsFor (counts past e ∷ past) after
-happened_accounts before e after past h H I = rw (h.state_is, h.outcome_is, h.reply_is) (after_call before e.arrival past H I)
+happened_accounts before e after past h I = rw (h.state_is, h.outcome_is, h.reply_is) (after_call before e.arrival past I)
 
-pub lived_accounts : (list : List Event) (first last : State) (past : List Counted) → Lived first list last → HeldFor first → AccountsFor past first
+pub lived_accounts : (list : List Event) (first last : State) (past : List Counted) → Lived first list last → AccountsFor past first
     → AccountsFor (counted past list) last
-lived_accounts [] first last past l H I = rw (← l) I
-lived_accounts (e ∷ rest) first last past l H I =
-    lived_accounts rest l.0 last (counts past e ∷ past) l.2 (happened_held first e l.0 l.1 H) (happened_accounts first e l.0 past l.1 H I)
+lived_accounts [] first last past l I = rw (← l) I
+lived_accounts (e ∷ rest) first last past l I =
+    lived_accounts rest l.0 last (counts past e ∷ past) l.2 (happened_accounts first e l.0 past l.1 I)
 
 pub apart : (st : State) (past : List Counted) → AccountsFor past st → (t : ℕ) → clock_of st ≤ t → Apart st.slots t
 apart st past I t le =

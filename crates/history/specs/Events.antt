@@ -38,7 +38,6 @@ CallFits (Client call) =
     × (call.time < 2 ^ 64)
     × (call.user < 2 ^ 32)
     × (call.start < 2 ^ 32)
-    × (call.token < 2 ^ 64)
 CallFits (Peer call) = TransportFits call.source × IdFits call.id × (call.port < 2 ^ 16) × (call.time < 2 ^ 64)
 
 -- a client's or a peer's datagram with everything it brings: 'Each call brings its own datagram and buffer'; and the tree of denied prefixes that it
@@ -85,7 +84,7 @@ asks method s = eqb (num s 0 2) (request_type method)
 -- what came back counts for the method that was asked. 'XOR-RELAYED-ADDRESS there has the port given, LIFETIME the seconds granted', and a
 -- permission ends at 's + 300'
 abbrev pub counts_as : FromClient → List ℕ → Message → Counted
-counts_as call s (AllocateSuccess id relay port seconds reservation client) = pick (asks Allocate s) (gave call.five_tuple port call.time seconds) nothing
+counts_as call s (AllocateSuccess id relay port seconds client) = pick (asks Allocate s) (gave call.five_tuple port call.time seconds) nothing
 counts_as call s (RefreshSuccess id seconds) = pick (asks Refresh s) (kept call.five_tuple call.time seconds) nothing
 counts_as call s (BareSuccess Allocate id) = nothing
 counts_as call s (BareSuccess Refresh id) = nothing

@@ -1,16 +1,14 @@
--- The numbers in the relay's state are of the types that the code gives them (`crates/slot/src/lib.rt`, `crates/hold/src/lib.rt`), which a
--- definition's numbers do not say.
+-- The numbers in the relay's state are of the types that the code gives them (`crates/slot/src/lib.rt`), which a definition's numbers do not say.
 use Rattle.std.specs.Prelude.{ℕ, ◌<◌, ◌^◌, ◌≡◌, length}
 use Rattle.slot.specs.declared.Allocation.{Allocation}
 use Rattle.slot.specs.declared.Permission.{Permission}
 use Rattle.slot.specs.declared.Channel.{Channel}
 use Rattle.slot.specs.declared.Slot.{Slot}
 use Rattle.table.specs.Table.{slot_at}
-use Rattle.hold.specs.declared.Hold.{Hold}
-use Rattle.state.specs.State.{State, clock_of, holds_in}
+use Rattle.state.specs.State.{State, clock_of}
 use Rattle.client_reader.specs.Fields.{IdFits, AddressFits}
 use Rattle.history.specs.Events.{TransportFits}
-use Rattle.history.specs.Statement.{permission_at, channel_at, hold_at}
+use Rattle.history.specs.Statement.{permission_at, channel_at}
 
 pub record AllocationFits (allocation : Allocation) : Type 0 where
   pub user : allocation.user < 2 ^ 8
@@ -38,19 +36,8 @@ pub record SlotFits (slot : Slot) : Type 0 where
   pub eight_channels : length slot.channels ≡ 8
   pub channels : (i : ℕ) → ChannelFits (channel_at slot.channels i)
 
-pub record HoldFits (hold : Hold) : Type 0 where
-  pub token : hold.token < 2 ^ 64
-  pub port : hold.port < 2 ^ 16
-  pub expiry : hold.expiry < 2 ^ 64
-  pub client : TransportFits hold.maker.five_tuple.client
-  pub server : TransportFits hold.maker.five_tuple.server
-  pub protocol : hold.maker.five_tuple.protocol < 2 ^ 8
-  pub transaction_id_lem : IdFits hold.maker.transaction_id
-
--- 'A clock and 64 slots.' Request 4: 'At most 64 holds are kept.'
+-- 'A clock and 64 slots.'
 pub record StateFits (st : State) : Type 0 where
   pub clock : clock_of st < 2 ^ 64
   pub sixty_four : length st.slots ≡ 64
   pub slots : (i : ℕ) → SlotFits (slot_at st.slots i)
-  pub sixty_four_holds : length (holds_in st) ≡ 64
-  pub holds : (i : ℕ) → HoldFits (hold_at (holds_in st) i)

@@ -3,7 +3,6 @@ pub mod Events
 pub mod Statement
 pub mod Denied
 pub mod Causes
-pub mod Held
 pub mod Fits
 pub mod ReadBack
 pub mod Lines

@@ -1,20 +1,16 @@
 -- Demand 2's last words: every message that the relay writes is read back by its own reader as the fields that went in. Here are the fields
--- that go in, from the call, its datagram, and the relay's state before and after the call.
-use Rattle.std.specs.Prelude.{ℕ, ◌-◌, ◌≡◌, Bool, true, false, List, [], ◌++◌, eqb, length, take, replicate}
+-- that go in, from the call, its datagram, and the slots before and after the call.
+use Rattle.std.specs.Prelude.{ℕ, ◌-◌, ◌≡◌, List, [], ◌++◌, eqb, length, take, replicate}
 use Rattle.choice.specs.Choice.{pick}
 use Rattle.address.specs.declared.FiveTuple.{FiveTuple}
-use Rattle.address.specs.declared.TransactionId.{TransactionId}
-use Rattle.address.specs.declared.TransportAddress.{TransportAddress}
 use Rattle.stun.specs.declared.kinds.Method.{Method}
 use Rattle.stun.specs.declared.kinds.Method.TheVariants.{Allocate, Refresh, CreatePermission, ChannelBind}
 use Rattle.stun.specs.Message.{unknown_types}
 use Rattle.stun.specs.Values.{transaction_id_of}
-use Rattle.messages.specs.declared.Reservation.TheVariants.{Token}
 use Rattle.slot.specs.declared.Found.{Found}
 use Rattle.slot.specs.declared.Slot.{Slot}
 use Rattle.slot.specs.Search.{find, has, or_else, at_or}
 use Rattle.slot.specs.Slot.{fresh_channel, holds_port, leads_to}
-use Rattle.hold.specs.declared.Hold.{Hold}
 use Rattle.table.specs.Table.{in_slot, lapsed}
 use Rattle.rules.specs.declared.answer.Outcome.TheVariants.{ToClient}
 use Rattle.decisions.specs.declared.client.Asked.{Asked}
@@ -28,17 +24,15 @@ use Rattle.interface.specs.declared.incoming.Call.{Call}
 use Rattle.interface.specs.declared.incoming.Call.TheVariants.{Client, Peer}
 use Rattle.interface.specs.declared.incoming.FromClient.{FromClient}
 use Rattle.interface.specs.declared.incoming.FromPeer.{FromPeer}
-use Rattle.interface.specs.Refusals.{time_of}
-use Rattle.state.specs.State.{State, at_time, holds_in}
-use Rattle.decisions.specs.Decisions.{as_rules, own_place, slot_in, made_hold, told_token, room_for}
+use Rattle.state.specs.State.{State}
+use Rattle.decisions.specs.Decisions.{as_rules, own_place, slot_in, room_for}
 use Rattle.state.specs.Step.{Stepped}
 use Rattle.client_reader.specs.declared.Message.{Message}
-use Rattle.client_reader.specs.declared.Message.TheVariants.{AllocateSuccess, RefreshSuccess, BareSuccess, Error, UnknownAttributes, DataIndication, ChannelData, Nothing}
+use Rattle.client_reader.specs.declared.Message.TheVariants.{AllocateSuccess, RefreshSuccess, BareSuccess, Error, UnknownAttributes, DataIndication, ChannelData}
 use Rattle.client_reader.specs.declared.ReadMessage.{ReadMessage}
 use Rattle.client_reader.specs.Fields.{data_of, plain, nothing, IsMessage, Exact}
 use Rattle.client_reader.specs.Reader.{message_in}
 use Rattle.history.specs.Events.{Arrival}
-use Rattle.history.specs.Statement.{hold_at, LiveHold}
 use Rattle.history.specs.Fits.{StateFits}
 
 -- ---- The slot that a call is about
@@ -52,31 +46,25 @@ port_place call slots = find (in_slot (holds_port call.time call.port)) slots
 
 -- ---- Responses
 
--- the code of the first check that applies, by the state before the call; 0 where none does
-abbrev pub code_for : FromClient → List ℕ → State → Method → ℕ
-code_for call s before Allocate =
-    let place = own_place call before.slots in
-    allocate_code (as_rules call) s (repeats (as_rules call) s (has place) (slot_in before.slots place)) (room_for call s before.slots (holds_in before))
-code_for call s before Refresh =
-    let place = own_place call before.slots in refresh_code (as_rules call) s (has place) (slot_in before.slots place)
-code_for call s before CreatePermission =
-    let place = own_place call before.slots in
-    create_permission_code (as_rules call) s (any_denied before.bookkeeping.denied s) (has place) (slot_in before.slots place)
-code_for call s before ChannelBind =
-    let place = own_place call before.slots in
-    channel_bind_code (as_rules call) s (first_denied before.bookkeeping.denied s) (has place) (slot_in before.slots place)
+-- the code of the first check that applies, by the slots before the call and the tree of denied prefixes; 0 where none does
+abbrev pub code_for : (denied : List ℕ) → FromClient → List ℕ → List Slot → Method → ℕ
+code_for denied call s before Allocate =
+    let place = own_place call before in
+    allocate_code (as_rules call) s (repeats (as_rules call) s (has place) (slot_in before place)) (room_for call before)
+code_for denied call s before Refresh = let place = own_place call before in refresh_code (as_rules call) s (has place) (slot_in before place)
+code_for denied call s before CreatePermission =
+    let place = own_place call before in create_permission_code (as_rules call) s (any_denied denied s) (has place) (slot_in before place)
+code_for denied call s before ChannelBind =
+    let place = own_place call before in channel_bind_code (as_rules call) s (first_denied denied s) (has place) (slot_in before place)
 
 -- 'Reply: XOR-RELAYED-ADDRESS 0x0016, LIFETIME, XOR-MAPPED-ADDRESS 0x0020 (the client).', 'Reply: LIFETIME granted.', 'a bare 20-byte header':
 -- the port is that of the slot after the call, and LIFETIME the seconds until its expiry, 0 where the slot is fresh. An Allocate's slot is the
--- caller's own where it had one, which is a repeat's, or else the one that it takes. Request 4: the token is the one of the live hold, after the
--- call, that remembers the caller's 5-tuple and this transaction id; there is none where no hold does
-abbrev pub success_for : FromClient → List ℕ → (before after : State) → Method → Message
+-- caller's own where it had one, which is a repeat's, or else the one that it takes
+abbrev pub success_for : FromClient → List ℕ → (before after : List Slot) → Method → Message
 success_for call s before after Allocate =
-    let allocation = (slot_in after.slots (or_else (own_place call before.slots) (free_place call before.slots))).allocation in
-    let reservation = told_token (holds_in after) (made_hold call s (holds_in after)) in
-    AllocateSuccess (transaction_id_of s) call.relay allocation.port (seconds_left call.time allocation.expiry) reservation call.five_tuple.client
-success_for call s before after Refresh =
-    RefreshSuccess (transaction_id_of s) ((slot_in after.slots (own_place call before.slots)).allocation.expiry - call.time)
+    let allocation = (slot_in after (or_else (own_place call before) (free_place call before))).allocation in
+    AllocateSuccess (transaction_id_of s) call.relay allocation.port (seconds_left call.time allocation.expiry) call.five_tuple.client
+success_for call s before after Refresh = RefreshSuccess (transaction_id_of s) ((slot_in after (own_place call before)).allocation.expiry - call.time)
 success_for call s before after CreatePermission = BareSuccess CreatePermission (transaction_id_of s)
 success_for call s before after ChannelBind = BareSuccess ChannelBind (transaction_id_of s)
 
@@ -90,9 +78,9 @@ unknown_for method s =
 abbrev pub error_for : Method → List ℕ → ℕ → ReadMessage
 error_for method s code = pick (eqb code 420) (unknown_for method s) (plain (Error method (transaction_id_of s) code))
 
-abbrev pub response_for : FromClient → List ℕ → (before after : State) → Method → ReadMessage
-response_for call s before after method =
-    let code = code_for call s before method in
+abbrev pub response_for : (denied : List ℕ) → FromClient → List ℕ → (before after : List Slot) → Method → ReadMessage
+response_for denied call s before after method =
+    let code = code_for denied call s before method in
     pick (eqb code 0) (plain (success_for call s before after method)) (error_for method s code)
 
 -- ---- Data
@@ -109,19 +97,19 @@ relayed_for call len slot =
 -- ---- Every call
 
 -- what a client's datagram is answered with, by what it asks: a Send or ChannelData is not answered
-abbrev pub answer_for : FromClient → List ℕ → (before after : State) → Asked → ReadMessage
-answer_for call s before after Asked.Allocate = response_for call s before after Allocate
-answer_for call s before after Asked.Refresh = response_for call s before after Refresh
-answer_for call s before after Asked.CreatePermission = response_for call s before after CreatePermission
-answer_for call s before after Asked.ChannelBind = response_for call s before after ChannelBind
-answer_for call s before after Asked.Send = nothing
-answer_for call s before after Asked.ChannelData = nothing
-answer_for call s before after Asked.Nothing = nothing
+abbrev pub answer_for : (denied : List ℕ) → FromClient → List ℕ → (before after : List Slot) → Asked → ReadMessage
+answer_for denied call s before after Asked.Allocate = response_for denied call s before after Allocate
+answer_for denied call s before after Asked.Refresh = response_for denied call s before after Refresh
+answer_for denied call s before after Asked.CreatePermission = response_for denied call s before after CreatePermission
+answer_for denied call s before after Asked.ChannelBind = response_for denied call s before after ChannelBind
+answer_for denied call s before after Asked.Send = nothing
+answer_for denied call s before after Asked.ChannelData = nothing
+answer_for denied call s before after Asked.Nothing = nothing
 
 -- the fields that go into what is sent to a client
-abbrev pub fields_for : Call → List ℕ → (before after : State) → ReadMessage
-fields_for (Client call) s before after = answer_for call s before after (asked_by s)
-fields_for (Peer call) s before after = plain (relayed_for call (length s) (slot_in after.slots (port_place call before.slots)))
+abbrev pub fields_for : (denied : List ℕ) → Call → List ℕ → (before after : List Slot) → ReadMessage
+fields_for denied (Client call) s before after = answer_for denied call s before after (asked_by s)
+fields_for denied (Peer call) s before after = plain (relayed_for call (length s) (slot_in after (port_place call before)))
 
 -- and the data: a peer's datagram
 abbrev pub data_for : Call → List ℕ → List ℕ
@@ -145,40 +133,4 @@ abbrev pub ReadBack : Type 0
 ReadBack =
     (before after : State) (a : Arrival) (reply' : List ℕ) (C : FiveTuple) (n : ℕ)
     → StateFits before → Stepped before a.call a.datagram (ToClient C n) after a.reply reply'
-    → ReadAs (fields_for a.call a.datagram before after) (data_for a.call a.datagram) (take n reply')
-
--- ---- Request 4: 'each reply's token is the one held'
-
--- a live hold is under the token
-pub record TokenHeld (t token : ℕ) (held : List Hold) : Type 0 where
-  pub place : ℕ
-  pub live : LiveHold t (hold_at held place)
-  pub same : (hold_at held place).token ≡ token
-
--- where an Allocate's reply is read with a token, a hold that is live after the call is under it
-abbrev pub EachTokenHeld : Type 0
-EachTokenHeld =
-    (before after : State) (a : Arrival) (reply' : List ℕ) (C : FiveTuple) (n : ℕ)
-    → StateFits before → Stepped before a.call a.datagram (ToClient C n) after a.reply reply'
-    → (id : TransactionId) (relay port seconds token : ℕ) (client : TransportAddress)
-    → (message_in (take n reply')).message ≡ AllocateSuccess id relay port seconds (Token token) client
-    → TokenHeld (time_of a.call) token (holds_in after)
-
--- ---- 'Every error leaves all slots as found', and with request 4 all holds
-
-abbrev pub is_error : Message → Bool
-is_error (AllocateSuccess id relay port seconds reservation client) = false
-is_error (RefreshSuccess id seconds) = false
-is_error (BareSuccess method id) = false
-is_error (Error method id code) = true
-is_error (UnknownAttributes method id count) = true
-is_error (DataIndication id peer port start len) = false
-is_error (ChannelData number start len) = false
-is_error Nothing = false
-
--- where a reply is read as an error, nothing changes but the clock
-abbrev pub ErrorsLeave : Type 0
-ErrorsLeave =
-    (before after : State) (a : Arrival) (reply' : List ℕ) (C : FiveTuple) (n : ℕ)
-    → StateFits before → Stepped before a.call a.datagram (ToClient C n) after a.reply reply'
-    → is_error (message_in (take n reply')).message ≡ true → after ≡ at_time (time_of a.call) before
+    → ReadAs (fields_for before.bookkeeping.denied a.call a.datagram before.slots after.slots) (data_for a.call a.datagram) (take n reply')

@@ -9,14 +9,12 @@ use Rattle.slot.specs.declared.Slot.{Slot}
 use Rattle.slot.specs.declared.Permission.{Permission}
 use Rattle.slot.specs.declared.Channel.{Channel}
 use Rattle.slot.specs.Slot.{fresh_permission, fresh_channel}
-use Rattle.hold.specs.declared.Hold.{Hold}
-use Rattle.hold.specs.Hold.{fresh_hold}
 use Rattle.table.specs.Table.{slot_at}
 use Rattle.rules.specs.declared.answer.Outcome.TheVariants.{Refused, ToClient}
 use Rattle.rules.specs.Change.{Cause, dropped_for}
 use Rattle.interface.specs.declared.incoming.Call.TheVariants.{Peer}
 use Rattle.history.specs.Counted.{Counted, gave, kept, allowed}
-use Rattle.state.specs.State.{State, empty, clock_of, holds_in}
+use Rattle.state.specs.State.{State, empty, clock_of}
 use Rattle.history.specs.Events.{Arrival, Event, Lived, counted}
 
 -- ---- The table
@@ -48,19 +46,6 @@ pub record Apart (slots : List Slot) (t : ℕ) : Type 0 where
   pub peers : (k : ℕ) → Live t (slot_at slots k) → (i j : ℕ) → LiveChannel t (channel_at (slot_at slots k).channels i)
       → LiveChannel t (channel_at (slot_at slots k).channels j)
       → (channel_at (slot_at slots k).channels i).peer ≡ (channel_at (slot_at slots k).channels j).peer → i ≡ j
-
--- ---- The holds
-
-abbrev pub hold_at : List Hold → ℕ → Hold
-hold_at l i = get_or l i fresh_hold
-
-abbrev pub LiveHold : ℕ → Hold → Type 0
-LiveHold t hold = t < hold.expiry
-
--- request 4: 'Demand 3 gains: no held port is a live slot's port, and no two live holds share a port.'
-pub record HeldApart (slots : List Slot) (held : List Hold) (t : ℕ) : Type 0 where
-  pub no_slots : (i j : ℕ) → LiveHold t (hold_at held i) → Live t (slot_at slots j) → (hold_at held i).port ≢ (slot_at slots j).allocation.port
-  pub one_hold : (i j : ℕ) → LiveHold t (hold_at held i) → LiveHold t (hold_at held j) → (hold_at held i).port ≡ (hold_at held j).port → i ≡ j
 
 -- ---- The history: what was counted, the newest first
 
@@ -141,8 +126,6 @@ IsDropped e = (cause : Cause) × (e.outcome ≡ dropped_for cause)
 pub record Demand3From (first : State) (past : List Counted) (list : List Event) : Type 0 where
   -- 'Every moment: before the first call and after each, at the stored clock and any later time'
   pub apart : (before after : List Event) → list ≡ before ++ after → (st : State) → Lived first before st → (t : ℕ) → clock_of st ≤ t → Apart st.slots t
-  -- and of the held ports
-  pub held : (before after : List Event) → list ≡ before ++ after → (st : State) → Lived first before st → (t : ℕ) → clock_of st ≤ t → HeldApart st.slots (holds_in st) t
   -- 'a peer's datagram goes to client C exactly when the history of accepted requests says so'
   pub goes_to : (before : List Event) (e : Event) (R x t : ℕ) → Comes list before e R (V4 x) t → (C : FiveTuple) → To C e ↔ GoesTo (counted past before) C R (V4 x) t
   -- 'to nobody: dropped'

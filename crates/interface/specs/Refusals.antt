@@ -10,10 +10,8 @@ use Rattle.interface.specs.declared.refusals.Lengths.{Lengths}
 
 -- ---- The calls of a client's and of a peer's datagram
 
--- request 4: 'eight bytes the call brings' for a token
-abbrev pub client_datagram : (time user start relay : ℕ) → FiveTuple → (token : ℕ) → Call
-client_datagram time user start relay fiveTuple token =
-    Client (record { time = time; user = user; start = start; relay = relay; five_tuple = fiveTuple; token = token })
+abbrev pub client_datagram : (time user start relay : ℕ) → FiveTuple → Call
+client_datagram time user start relay fiveTuple = Client (record { time = time; user = user; start = start; relay = relay; five_tuple = fiveTuple })
 
 abbrev pub peer_datagram : ℕ → TransportAddress → ℕ → TransactionId → Call
 peer_datagram time source port id = Peer (record { time = time; source = source; port = port; id = id })

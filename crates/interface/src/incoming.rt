@@ -4,8 +4,8 @@ ghost use Rattle.interface.specs.Refusals.{client_datagram, peer_datagram, time_
 
 use address::{FiveTuple, TransactionId, TransportAddress};
 
-// A client's datagram: the time, the authenticated user (0: none), where the search for a port starts, the relay's IPv4 address, the
-// 5-tuple that it came by, and eight bytes for a token, in network order.
+// A client's datagram: the time, the authenticated user (0: none), where the search for a port starts, the relay's IPv4 address, and the
+// 5-tuple that it came by.
 #[derive(Drop)]
 pub struct FromClient {
     pub time: u64,
@@ -13,7 +13,6 @@ pub struct FromClient {
     pub start: u32,
     pub relay: u32,
     pub five_tuple: FiveTuple,
-    pub token: u64,
 }
 
 // A peer's datagram: the time, where it came from, the relay port that it came to, and an id for a Data indication.
@@ -31,15 +30,8 @@ pub enum Call {
     Peer(FromPeer),
 }
 
-pub fn call_of_client(
-    time: u64,
-    user: u32,
-    start: u32,
-    relay: u32,
-    five_tuple: FiveTuple,
-    token: u64,
-) -> Call
-    ensures { result ≡ client_datagram time user start relay five_tuple token }
+pub fn call_of_client(time: u64, user: u32, start: u32, relay: u32, five_tuple: FiveTuple) -> Call
+    ensures { result ≡ client_datagram time user start relay five_tuple }
 {
     Call::Client(FromClient {
         time,
@@ -47,7 +39,6 @@ pub fn call_of_client(
         start,
         relay,
         five_tuple,
-        token,
     })
 }
 

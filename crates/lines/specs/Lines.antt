@@ -21,7 +21,7 @@ transport_address address port = record { address = address; port = port }
 -- 'Server and relay are 203.0.113.5:3478'
 unfoldable pub call_from_client : (time user start : ℕ) → Address → ℕ → Call
 call_from_client time user start address port =
-    client_datagram time user start 3405803781 (record { client = transport_address address port; server = transport_address (V4 3405803781) 3478; protocol = 17 }) 0
+    client_datagram time user start 3405803781 (record { client = transport_address address port; server = transport_address (V4 3405803781) 3478; protocol = 17 })
 
 -- 'the twelve bytes are zero'
 unfoldable pub call_from_peer : ℕ → Address → (port relayPort : ℕ) → Call

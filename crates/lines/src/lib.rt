@@ -65,7 +65,7 @@ fn call_from_client(time: u64, user: u32, start: u32, address: Address, port: u1
         server,
         protocol: 17,
     };
-    call_of_client(time, user, start, SERVER, five_tuple, 0)
+    call_of_client(time, user, start, SERVER, five_tuple)
 }
 
 fn call_from_peer(time: u64, address: Address, port: u16, relay_port: u16) -> Call

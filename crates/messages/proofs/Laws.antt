@@ -15,10 +15,8 @@ use Rattle.address.specs.declared.Address.TheVariants.{V4, V6}
 use Rattle.address.specs.declared.TransportAddress.{TransportAddress}
 use Rattle.address.specs.declared.TransactionId.{TransactionId}
 use Rattle.stun.specs.declared.kinds.Method.{Method}
-use Rattle.messages.specs.Messages.{header_bytes, padding, attribute_bytes, message_bytes, address_attribute, token_attribute, types_bytes, allocate_success, refresh_success, bare_success, error_response, unknown_response, data_indication, channel_data}
-use Rattle.messages.specs.declared.Reservation.{Reservation}
-use Rattle.messages.specs.declared.Reservation.TheVariants.{Token, NoToken}
-use Rattle.messages.specs.Inner.{attribute_head, attribute_size, address_size, token_size, Sent}
+use Rattle.messages.specs.Messages.{header_bytes, padding, attribute_bytes, message_bytes, address_attribute, types_bytes, allocate_success, refresh_success, bare_success, error_response, unknown_response, data_indication, channel_data}
+use Rattle.messages.specs.Inner.{attribute_head, attribute_size, address_size, Sent}
 
 -- ---- An attribute
 
@@ -35,15 +33,6 @@ length_address type id (V6 a b c d) port = refl
 pub address_small : (address : Address) → address_size address ≤ 24
 address_small (V4 a) = lit≤ tt
 address_small (V6 a b c d) = lit≤ tt
-
-pub length_token : (reservation : Reservation) → length (token_attribute reservation) ≡ token_size reservation
-unfolding token_attribute bytes_of
-length_token (Token token) = refl
-length_token NoToken = refl
-
-pub token_small : (reservation : Reservation) → token_size reservation ≤ 12
-token_small (Token token) = lit≤ tt
-token_small NoToken = lit≤ tt
 
 -- padding does not pass a multiple of 4
 pub attribute_small : (n m : ℕ) → n ≤ m * 4 → attribute_size n ≤ 4 + m * 4
@@ -96,12 +85,10 @@ message_sent type id body t e s w =
 -- ---- No message is longer than 1536 bytes, with 16 types or 1500 bytes of payload at most
 
 module _ (id : TransactionId) where
-  pub allocate_small : (relay port seconds : ℕ) (reservation : Reservation) (client : TransportAddress)
-      → length (allocate_success id relay port seconds reservation client) ≤ 1536
+  pub allocate_small : (relay port seconds : ℕ) (client : TransportAddress) → length (allocate_success id relay port seconds client) ≤ 1536
   unfolding allocate_success bytes_of
-  allocate_small relay port seconds reservation client =
-      let mapped = address_attribute 0x0020 id client.address client.port in
-      omega (arith, length-append (token_attribute reservation) mapped, length_token reservation, token_small reservation, length_address 0x0020 id client.address client.port, address_small client.address)
+  allocate_small relay port seconds client =
+      omega (arith, length_address 0x0020 id client.address client.port, address_small client.address)
 
   pub refresh_small : (seconds : ℕ) → length (refresh_success id seconds) ≤ 1536
   unfolding refresh_success bytes_of

@@ -6,8 +6,6 @@ use Rattle.wire.specs.Inner.{Wrote}
 use Rattle.address.specs.declared.Address.{Address}
 use Rattle.address.specs.declared.Address.TheVariants.{V4, V6}
 use Rattle.stun.specs.Kinds.{cookie_high}
-use Rattle.messages.specs.declared.Reservation.{Reservation}
-use Rattle.messages.specs.declared.Reservation.TheVariants.{Token, NoToken}
 use Rattle.messages.specs.Messages.{padding}
 
 -- the message stands at the front of the buffer, the rest is as it was, and n is the message's length
@@ -28,11 +26,6 @@ address_head type len family port = attribute_head type len ++ bytes_of 2 family
 abbrev pub address_size : Address → ℕ
 address_size (V4 a) = 12
 address_size (V6 a b c d) = 24
-
--- the length of RESERVATION-TOKEN
-abbrev pub token_size : Reservation → ℕ
-token_size (Token token) = 12
-token_size NoToken = 0
 
 -- the length of an attribute whose value has n bytes
 abbrev pub attribute_size : ℕ → ℕ

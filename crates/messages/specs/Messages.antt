@@ -1,5 +1,5 @@
 -- The bytes of every message that the relay sends: STUN's header and attributes (RFC 8489, 5 and 14), the responses of document 01's
--- 'Requests' with the token of request 4, and the Data indication and ChannelData of its 'Data'.
+-- 'Requests', and the Data indication and ChannelData of its 'Data'.
 use Rattle.std.specs.Prelude.{ℕ, ◌+◌, ◌-◌, ◌*◌, ◌/◌, ◌%◌, List, [], ◌∷◌, ◌++◌, length, replicate}
 use Rattle.std.specs.Int.Bits.{bit_xor}
 use Rattle.wire.specs.Wire.{bytes_of}
@@ -11,8 +11,6 @@ use Rattle.stun.specs.declared.kinds.Method.{Method}
 use Rattle.stun.specs.declared.kinds.Method.TheVariants.{Allocate, Refresh}
 use Rattle.stun.specs.AttributeNumbers as attribute
 use Rattle.stun.specs.Kinds.{cookie, cookie_high, success_type, error_type, data_type}
-use Rattle.messages.specs.declared.Reservation.{Reservation}
-use Rattle.messages.specs.declared.Reservation.TheVariants.{Token, NoToken}
 
 -- ---- The parts of a message
 
@@ -60,12 +58,6 @@ unfoldable pub lifetime_attribute : ℕ → List ℕ
 unfolding attribute_bytes
 lifetime_attribute seconds = attribute_bytes attribute.lifetime (bytes_of 4 seconds)
 
--- request 4: RESERVATION-TOKEN, '8 bytes'; there is none where no port is held
-unfoldable pub token_attribute : Reservation → List ℕ
-unfolding attribute_bytes
-token_attribute (Token token) = attribute_bytes attribute.reservation_token (bytes_of 8 token)
-token_attribute NoToken = []
-
 -- 'ERROR-CODE 0x0009, 4 bytes: 0, 0, hundreds, rest; no phrase'
 unfoldable pub error_code_attribute : ℕ → List ℕ
 unfolding attribute_bytes
@@ -88,16 +80,12 @@ data_attribute payload = attribute_bytes attribute.«data» payload
 
 -- ---- The messages
 
--- Allocate: 'Reply: XOR-RELAYED-ADDRESS 0x0016, LIFETIME, XOR-MAPPED-ADDRESS 0x0020 (the client).' Request 4: '.. the token, which goes
--- into the reply after LIFETIME'
-unfoldable pub allocate_success : TransactionId → ℕ → ℕ → ℕ → Reservation → TransportAddress → List ℕ
-unfolding message_bytes address_attribute lifetime_attribute token_attribute
-allocate_success id relay port seconds reservation client =
+-- Allocate: 'Reply: XOR-RELAYED-ADDRESS 0x0016, LIFETIME, XOR-MAPPED-ADDRESS 0x0020 (the client).'
+unfoldable pub allocate_success : TransactionId → ℕ → ℕ → ℕ → TransportAddress → List ℕ
+unfolding message_bytes address_attribute lifetime_attribute
+allocate_success id relay port seconds client =
     message_bytes (success_type Allocate) id
-    (address_attribute attribute.xor_relayed_address id (V4 relay) port
-    ++ lifetime_attribute seconds
-    ++ token_attribute reservation
-    ++ address_attribute attribute.xor_mapped_address id client.address client.port)
+    (address_attribute attribute.xor_relayed_address id (V4 relay) port ++ lifetime_attribute seconds ++ address_attribute attribute.xor_mapped_address id client.address client.port)
 
 -- Refresh: 'Reply: LIFETIME granted.'
 unfoldable pub refresh_success : TransactionId → ℕ → List ℕ

@@ -4,22 +4,14 @@ ghost use Rattle.std.specs.Prelude.{◌≡◌, ◌≤◌, ◌*◌, length, take}
 ghost use Rattle.address.specs.declared.TransactionId.{TransactionId};
 ghost use Rattle.address.specs.declared.Address.TheVariants.{V4, V6};
 ghost use Rattle.wire.specs.Inner.{Wrote};
-ghost use Rattle.messages.specs.Messages.{transaction_id_bytes, header_bytes, address_attribute, lifetime_attribute, token_attribute, error_code_attribute, types_bytes, unknown_attribute, data_attribute, allocate_success, refresh_success, bare_success, error_response, unknown_response, data_indication, channel_data, padding};
-ghost use Rattle.messages.specs.Inner.{attribute_head, address_head, address_size, token_size, attribute_size, Sent};
+ghost use Rattle.messages.specs.Messages.{transaction_id_bytes, header_bytes, address_attribute, lifetime_attribute, error_code_attribute, types_bytes, unknown_attribute, data_attribute, allocate_success, refresh_success, bare_success, error_response, unknown_response, data_indication, channel_data, padding};
+ghost use Rattle.messages.specs.Inner.{attribute_head, address_head, address_size, attribute_size, Sent};
 
 use address::{Address, TransactionId, TransportAddress};
 use stun::kinds::{AttributeKind, MessageKind, Method};
 use wire::{
-    put_bytes, put_u8_at, put_u16, put_u16_at, put_u32, put_u32_at, put_u64_at, put_zeros, xor_u16,
-    xor_u32,
+    put_bytes, put_u8_at, put_u16, put_u16_at, put_u32, put_u32_at, put_zeros, xor_u16, xor_u32,
 };
-
-// The token under which the port after the relayed one is held, where it is.
-#[derive(Drop)]
-pub enum Reservation {
-    Token(u64),
-    NoToken,
-}
 
 // ---- The parts of a message
 
@@ -69,21 +61,11 @@ fn attribute_size(len: usize) -> usize
 
 // The length of an address attribute.
 fn address_size(address: Address) -> usize
-    ensures { (result ≡ address_size address) × (result ≤ 24) }
+    ensures { result ≡ address_size address }
 {
     match address {
         Address::V4(_) => 12,
         Address::V6(_, _, _, _) => 24,
-    }
-}
-
-// The length of RESERVATION-TOKEN.
-fn token_size(reservation: Reservation) -> usize
-    ensures { (result ≡ token_size reservation) × (result ≤ 12) }
-{
-    match reservation {
-        Reservation::Token(_) => 12,
-        Reservation::NoToken => 0,
     }
 }
 
@@ -170,20 +152,6 @@ pub(crate) fn put_lifetime(out: &mut [u8], seconds: u32)
     put_u32_at(out, 4, seconds);
 }
 
-// RESERVATION-TOKEN, where a port is held.
-pub(crate) fn put_reservation_token(out: &mut [u8], reservation: Reservation)
-    requires { 12 ≤ length out.old }
-    ensures { Wrote (token_attribute reservation) out.old out.new }
-{
-    match reservation {
-        Reservation::Token(token) => {
-            put_attribute_head(out, AttributeKind::RESERVATION_TOKEN, 8);
-            put_u64_at(out, 4, token);
-        }
-        Reservation::NoToken => {}
-    }
-}
-
 pub(crate) fn put_error_code(out: &mut [u8], code: u16)
     requires { (code ≤ 699) × (8 ≤ length out.old) }
     ensures { Wrote (error_code_attribute code) out.old out.new }
@@ -228,16 +196,14 @@ pub fn put_allocate_success(
     relay: u32,
     port: u16,
     seconds: u32,
-    reservation: Reservation,
     client: TransportAddress,
 ) -> usize
     requires { 1536 ≤ length reply.old }
-    ensures { Sent (allocate_success id relay port seconds reservation client) reply.old reply.new result }
+    ensures { Sent (allocate_success id relay port seconds client) reply.old reply.new result }
 {
     let address = client.address;
-    let mapped_at = 40 + token_size(reservation);
-    let size = mapped_at + address_size(address);
-    put_header(reply, MessageKind::ALLOCATE_SUCCESS, (size - 20) as u16, id);
+    let len = 20 + address_size(address);
+    put_header(reply, MessageKind::ALLOCATE_SUCCESS, len as u16, id);
     put_v4_address(
         &mut reply[20..],
         AttributeKind::XOR_RELAYED_ADDRESS,
@@ -245,15 +211,14 @@ pub fn put_allocate_success(
         port,
     );
     put_lifetime(&mut reply[32..], seconds);
-    put_reservation_token(&mut reply[40..], reservation);
     put_address(
-        &mut reply[mapped_at..],
+        &mut reply[40..],
         AttributeKind::XOR_MAPPED_ADDRESS,
         id,
         address,
         client.port,
     );
-    size
+    20 + len
 }
 
 pub fn put_refresh_success(reply: &mut [u8], id: TransactionId, seconds: u32) -> usize

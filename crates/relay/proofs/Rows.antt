@@ -24,10 +24,6 @@ use Rattle.state.specs.declared.Bookkeeping.{Bookkeeping}
 use Rattle.state.specs.contracts.Bookkeeping as Bookkeeping-t
 use Rattle.interface.specs.contracts.refusals.Lengths as Lengths-t
 use Rattle.interface.proofs.refusals.Lengths.TheLaws as Lengths-l
-use Rattle.hold.specs.contracts.surveys.Reserved as Reserved-t
-use Rattle.hold.proofs.surveys.Reserved.TheLaws as Reserved-l
-use Rattle.decisions.specs.contracts.allocations.Made as Made-t
-use Rattle.decisions.proofs.allocations.Made.TheLaws as Made-l
 use Rattle.decisions.specs.contracts.Seen as Seen-t
 use Rattle.decisions.proofs.Seen.TheLaws as Seen-l
 use Rattle.decisions.specs.contracts.Asking as Asking-t
@@ -59,18 +55,6 @@ seen_row = struct_row Seen-t.the_type Seen-l.the_laws Seen-l.the_plain
 
 pub seen_typed : {M : Type 1} {𝓤 : Ura M} (𝓛 : Logic 𝓤) → Typed 𝓛 seen_row Seen-l.mir
 seen_typed 𝓛 x is = ((seen_row.lawful 𝓛).typed x _ is).0
-
-abbrev pub reserved_row : Row Reserved-t.the_row
-reserved_row = struct_row Reserved-t.the_type Reserved-l.the_laws Reserved-l.the_plain
-
-pub reserved_typed : {M : Type 1} {𝓤 : Ura M} (𝓛 : Logic 𝓤) → Typed 𝓛 reserved_row Reserved-l.mir
-reserved_typed 𝓛 x is = ((reserved_row.lawful 𝓛).typed x _ is).0
-
-abbrev pub made_row : Row Made-t.the_row
-made_row = struct_row Made-t.the_type Made-l.the_laws Made-l.the_plain
-
-pub made_typed : {M : Type 1} {𝓤 : Ura M} (𝓛 : Logic 𝓤) → Typed 𝓛 made_row Made-l.mir
-made_typed 𝓛 x is = ((made_row.lawful 𝓛).typed x _ is).0
 
 abbrev pub outcome_row : Row Outcome-t.the_row
 outcome_row = enum_row Outcome-t.the_type Outcome-l.the_laws Outcome-l.the_plain tt

@@ -6,9 +6,7 @@ use mathlib.Core.List.{List, [], ◌∷◌, ◌++◌}
 use native.Mathlib.Nat.{not-suc-le-zero, pow-suc, mul_comm, div-div-eq-div-mul, max-zero, max-eq_right, zero-add, suc-add}
 use native.Mathlib.Omega.{arith}
 use lib.Bits.{bit_or, or_step, or_zero_r}
-use lib.Dec.{eqb, ltb}
-use borrow.Author.Tests.{ltb-true, ltb-false}
-use Rattle.choice.specs.Choice.{either}
+use lib.Dec.{eqb}
 use lib.ListN.{length, get_or, set, length-append, get_or-append}
 use lib.Seq.{get_or-append-add, set-append_left}
 use Rattle.slot.specs.declared.ports.Ports.{Ports}
@@ -53,25 +51,6 @@ bit_set (suc n) word zero h = bits_from n _ (word / 2) 1 (or_one word) (omega ar
 bit_set (suc n) word (suc k) h =
     bits_from n _ (bit_or (word / 2) (2 ^ k)) (word % 2) (or_more word k) (omega arith) ∙ ap (λ (l : List Bool). eqb (word % 2) 1 ∷ l) (bit_set n (word / 2) k (omega arith))
 
--- a bit of one word or of another
-lowest_or : (x y : ℕ) → x < 2 → y < 2 → eqb (max x y) 1 ≡ either (eqb x 1) (eqb y 1)
-lowest_or zero zero hx hy = refl
-lowest_or zero (suc zero) hx hy = refl
-lowest_or (suc zero) zero hx hy = refl
-lowest_or (suc zero) (suc zero) hx hy = refl
-lowest_or zero (suc (suc y)) hx hy = let z : ⊥ = omega arith in absurd z
-lowest_or (suc zero) (suc (suc y)) hx hy = let z : ⊥ = omega arith in absurd z
-lowest_or (suc (suc x)) y hx hy = let z : ⊥ = omega arith in absurd z
-
-bits_or : (n a b : ℕ) → bits_of (suc n) (bit_or a b) ≡ eqb (max (a % 2) (b % 2)) 1 ∷ bits_of n (bit_or (a / 2) (b / 2))
-bits_or n a b = bits_from n (bit_or a b) (bit_or (a / 2) (b / 2)) (max (a % 2) (b % 2)) (or_step a b) (omega arith)
-
-pub bit_or : (n a b k : ℕ) → k < n → get_or (bits_of n (bit_or a b)) k false ≡ either (get_or (bits_of n a) k false) (get_or (bits_of n b) k false)
-unfolding bits_of
-bit_or zero a b k h = absurd (not-suc-le-zero h)
-bit_or (suc n) a b zero h = ap (λ (l : List Bool). get_or l 0 false) (bits_or n a b) ∙ lowest_or (a % 2) (b % 2) (omega arith) (omega arith)
-bit_or (suc n) a b (suc k) h = ap (λ (l : List Bool). get_or l (suc k) false) (bits_or n a b) ∙ bit_or n (a / 2) (b / 2) k (omega arith)
-
 -- ---- the ports: the bits of two words
 module _ {A : Type 0} where
   set-append-add : (xs ys : List A) (n : ℕ) (a : A) → set (xs ++ ys) (length xs + n) a ≡ xs ++ set ys n a
@@ -108,16 +87,3 @@ module _ (ports : Ports) (k : ℕ) where
   pub high_set : (word : ℕ) → 64 ≤ k → bits_of 64 word ≡ set highs (k - 64) true → held_in (record { low = ports.low; high = word }) ≡ set (held_in ports) k true
   unfolding held_in
   high_set word h e = ap (λ (l : List Bool). lows ++ l) e ∙ sym (ap (λ (j : ℕ). set (held_in ports) j true) (past_low h) ∙ set-append-add lows highs (k - 64) true)
-
--- the ports that are held in one or the other
-pub joined_is : (one other : Ports) (k : ℕ) → k < 128
-    → get_or (held_in (record { low = bit_or one.low other.low; high = bit_or one.high other.high })) k false ≡ either (get_or (held_in one) k false) (get_or (held_in other) k false)
-joined_is one other k h = go (ltb k 64) refl
-  where
-    go : (b : Bool) → ltb k 64 ≡ b → get_or (held_in (record { low = bit_or one.low other.low; high = bit_or one.high other.high })) k false ≡ either (get_or (held_in one) k false) (get_or (held_in other) k false)
-    go true t =
-        let l : k < 64 = ltb-true k 64 t in
-        rw (low_is (record { low = bit_or one.low other.low; high = bit_or one.high other.high }) k l, low_is one k l, low_is other k l) (bit_or 64 one.low other.low k l)
-    go false f =
-        let l : 64 ≤ k = ltb-false k 64 f in
-        rw (high_is (record { low = bit_or one.low other.low; high = bit_or one.high other.high }) k l, high_is one k l, high_is other k l) (bit_or 64 one.high other.high (k - 64) (omega arith))

@@ -2,8 +2,6 @@
 // itself, the transaction id of the Allocate that made it, its permissions and its channels. Nothing here knows of the table that the
 // slots are in.
 ghost use Rattle.std.specs.Prelude.{◌≡◌};
-ghost use Rattle.choice.specs.Choice.{pick};
-ghost use Rattle.slot.specs.declared.Found.TheVariants.{At, Nothing};
 ghost use Rattle.slot.specs.Search.{has, or_else};
 ghost use Rattle.slot.specs.Slot.{live, fresh_transport_address, fresh_transaction_id, fresh_slot, with_allocation, with_transaction_id, with_permissions, with_channels};
 
@@ -65,7 +63,7 @@ pub struct Placed {
 }
 
 // Whether a thing with that expiry is live; at the moment of expiry it is not.
-pub fn is_live(time: u64, expiry: u64) -> bool
+pub(crate) fn is_live(time: u64, expiry: u64) -> bool
     ensures { result ≡ live time expiry }
 {
     time < expiry
@@ -92,18 +90,8 @@ pub fn or_else(first: Found, second: Found) -> Found
     }
 }
 
-// What the search found so far, or else this place where its entry passes.
-pub fn or_here(found: Found, i: usize, passes: bool) -> Found
-    ensures { result ≡ or_else found (pick passes (At i) Nothing) }
-{
-    if passes {
-        return or_else(found, Found::At(i));
-    }
-    found
-}
-
 // Port 0 of IPv4 0.0.0.0.
-pub fn fresh_transport_address() -> TransportAddress
+pub(crate) fn fresh_transport_address() -> TransportAddress
     ensures { result ≡ fresh_transport_address }
 {
     let address = Address::V4(0);
@@ -111,7 +99,7 @@ pub fn fresh_transport_address() -> TransportAddress
 }
 
 // Three words of 0.
-pub fn fresh_transaction_id() -> TransactionId
+fn fresh_transaction_id() -> TransactionId
     ensures { result ≡ fresh_transaction_id }
 {
     TransactionId {

@@ -1,6 +1,5 @@
 // Which of the 128 relay ports from 49152 on are held, a bit for each: a survey of the slots is passed on in registers.
-ghost use Rattle.std.specs.Prelude.{◌≡◌, true, false, ℕ, ◌+◌, ◌<◌, eqb, get_or, set};
-ghost use Rattle.choice.specs.Choice.{either};
+ghost use Rattle.std.specs.Prelude.{◌≡◌, true, false, ℕ, ◌<◌, get_or, set};
 ghost use Rattle.slot.specs.Inner.{bits_of, held_in};
 
 #[derive(Drop)]
@@ -56,25 +55,5 @@ pub fn with_port(ports: Ports, k: u64) -> Ports
     Ports {
         low: ports.low,
         high: with_bit(ports.high, k - 64),
-    }
-}
-
-// The ports with this one held too, if it is one of the 128 from 49152 on, which is 384 * 128.
-pub fn mark(port: u16, ports: Ports) -> Ports
-    ensures { (k : ℕ) → k < 128 → get_or (held_in result) k false ≡ either (get_or (held_in ports) k false) (eqb port (49152 + k)) }
-{
-    if port / 128 != 384 {
-        return ports;
-    }
-    with_port(ports, (port % 128) as u64)
-}
-
-// The ports that are held in one or the other.
-pub fn joined(one: Ports, other: Ports) -> Ports
-    ensures { (k : ℕ) → k < 128 → get_or (held_in result) k false ≡ either (get_or (held_in one) k false) (get_or (held_in other) k false) }
-{
-    Ports {
-        low: one.low | other.low,
-        high: one.high | other.high,
     }
 }

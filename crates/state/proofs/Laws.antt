@@ -14,22 +14,14 @@ use Rattle.slot.specs.Search.{has}
 use Rattle.table.specs.Inner.{place_of}
 use Rattle.rules.specs.declared.answer.Outcome.{Outcome}
 use Rattle.rules.specs.declared.answer.Outcome.TheVariants.{Refused}
-use Rattle.hold.specs.declared.Hold.{Hold}
-use Rattle.rules.specs.Change.{Out, Change, keep, write, outcome_of, reply_after}
+use Rattle.rules.specs.Change.{Out, keep, write, outcome_of, reply_after}
 use Rattle.interface.specs.declared.incoming.Call.{Call}
-use Rattle.interface.specs.declared.incoming.Call.TheVariants.{Client, Peer}
-use Rattle.interface.specs.declared.incoming.FromClient.{FromClient}
-use Rattle.decisions.specs.declared.client.Asked.{Asked}
-use Rattle.decisions.specs.declared.client.Asked.TheVariants as Asked
-use Rattle.decisions.specs.Client.{asked_by}
-use Rattle.decisions.specs.Decisions.{holds_on_asked, holds_after}
-use Rattle.decisions.specs.Inner.{asked_for, allocates}
 use Rattle.interface.specs.declared.refusals.Lengths.{Lengths}
-use Rattle.interface.specs.Refusals.{time_of, lengths, refusal}
+use Rattle.interface.specs.Refusals.{lengths, refusal}
 use Rattle.state.specs.declared.Bookkeeping.{Bookkeeping}
-use Rattle.state.specs.State.{State, state, clock_of, at_time, holds_in, with_holds}
+use Rattle.state.specs.State.{State, state, clock_of}
 use Rattle.state.specs.Outcomes.{Act, refuse, accept, Does}
-use Rattle.state.specs.Step.{done, decision, accepted, act, Stepped}
+use Rattle.state.specs.Step.{done, accepted, act, Stepped}
 
 -- a call is refused or accepted: what holds of both acts holds of its own
 pub acted : (P : Act → Type 0) (st : State) (call : Call) (s : List ℕ) (reply : ℕ) → ((number : ℕ) → P (refuse number))
@@ -74,26 +66,3 @@ written-done st Nothing slot out h e = absurd (false≢true h)
 pub does : {done : Act} {before after : State} {outcome : Outcome} {reply reply' : List ℕ} (next : State) (out : Out) → done ≡ accept next out → outcome ≡ outcome_of out → after ≡ next
     → reply' ≡ reply_after reply out → Does done before outcome after reply reply'
 does next out d o n r = record { outcome_is = rw d o; state_is = rw d n; reply_is = rw d r }
-
--- ---- Only an Allocate changes the holds
-asked_same : (call : FromClient) (s : List ℕ) (asked : Asked) (change : Change) (holds : List Hold) → allocates asked ≡ false → holds_on_asked call s asked change holds ≡ holds
-asked_same call s Asked.Allocate change holds e = absurd (false≢true (sym e))
-asked_same call s Asked.Refresh change holds e = refl
-asked_same call s Asked.CreatePermission change holds e = refl
-asked_same call s Asked.ChannelBind change holds e = refl
-asked_same call s Asked.Send change holds e = refl
-asked_same call s Asked.ChannelData change holds e = refl
-asked_same call s Asked.Nothing change holds e = refl
-
-pub holds_same : (call : Call) (s : List ℕ) (change : Change) (holds : List Hold) → allocates (asked_for call s) ≡ false → holds_after call s change holds ≡ holds
-unfolding holds_after
-holds_same (Client call) s change holds e = asked_same call s (asked_by s) change holds e
-holds_same (Peer call) s change holds e = refl
-
--- so any other call is done in the state that it meets
-pub accepted_as : (st : State) (call : Call) (s : List ℕ) → allocates (asked_for call s) ≡ false
-    → accepted st call s ≡ done (at_time (time_of call) st) (decision st call s).place (decision st call s).change
-unfolding accepted
-accepted_as st call s e =
-    ap (λ (holds : List Hold). done (at_time (time_of call) (with_holds holds st)) (decision st call s).place (decision st call s).change)
-    (holds_same call s (decision st call s).change (holds_in st) e)

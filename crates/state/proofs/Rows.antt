@@ -11,17 +11,9 @@ use borrow.Struct.Items.{Cut-Array}
 use borrow.Struct.Behind.{look_at}
 use borrow.Table.Copies.{halves, c_struct}
 use Rattle.walk.proofs.Walk.{Row, Typed, struct_row}
-use Rattle.hold.specs.contracts.HeldPorts as HeldPorts-t
-use Rattle.hold.proofs.HeldPorts.TheLaws as HeldPorts-l
 use Rattle.state.specs.declared.Bookkeeping.{Bookkeeping}
 use Rattle.state.specs.contracts.Bookkeeping as Bookkeeping-t
 use Rattle.state.proofs.Bookkeeping.TheLaws as Bookkeeping-l
-
-abbrev pub heldports_row : Row HeldPorts-t.the_row
-heldports_row = struct_row HeldPorts-t.the_type HeldPorts-l.the_laws HeldPorts-l.the_plain
-
-pub heldports_typed : {M : Type 1} {𝓤 : Ura M} (𝓛 : Logic 𝓤) → Typed 𝓛 heldports_row HeldPorts-l.mir
-heldports_typed 𝓛 x is = ((heldports_row.lawful 𝓛).typed x _ is).0
 
 abbrev pub bookkeeping_row : Row Bookkeeping-t.the_row
 bookkeeping_row = struct_row Bookkeeping-t.the_type Bookkeeping-l.the_laws Bookkeeping-l.the_plain
@@ -40,5 +32,5 @@ pub denied_parts : {M : Type 1} {𝓤 : Ura M} (𝓛 : Logic 𝓤) → Parts �
 denied_parts 𝓛 =
     part_cut 𝓛 Bookkeeping-t.the_row (Array u16 1536) 8 denied_part
     (λ s x b o. Cut-Array 𝓛 s Bookkeeping-t.the_row u16 1536 8 x x x.denied x.denied (b, o)
-    (look_at 𝓛 s Bookkeeping-t.the_type Bookkeeping-l.the_laws 1 8 refl refl (b, o) x (x.clock, (x.denied, (x.holds, tt))) refl))
+    (look_at 𝓛 s Bookkeeping-t.the_type Bookkeeping-l.the_laws 1 8 refl refl (b, o) x (x.clock, (x.denied, tt)) refl))
     (halves 𝓛 (c_struct Bookkeeping-t.the_type Bookkeeping-l.the_laws Bookkeeping-l.the_copy))

@@ -2,9 +2,6 @@
 use Rattle.std.specs.Prelude.{ℕ, List, replicate}
 use Rattle.slot.specs.declared.Slot.{Slot}
 use Rattle.slot.specs.Slot.{fresh_slot}
-use Rattle.hold.specs.declared.Hold.{Hold}
-use Rattle.hold.specs.declared.HeldPorts.{HeldPorts}
-use Rattle.hold.specs.Hold.{fresh_holds}
 use Rattle.denied.specs.Tree.{none_denied}
 use Rattle.denied.specs.Denied.{read_denied}
 use Rattle.state.specs.declared.Bookkeeping.{Bookkeeping}
@@ -17,9 +14,9 @@ pub record State : Type 0 where
 abbrev pub state : List Slot → Bookkeeping → State
 state slots bookkeeping = record { slots = slots; bookkeeping = bookkeeping }
 
--- 'Fresh: clock and every number 0'; nothing is denied, and no port is held
+-- 'Fresh: clock and every number 0'; nothing is denied
 abbrev pub fresh_bookkeeping : Bookkeeping
-fresh_bookkeeping = record { clock = 0; denied = none_denied; holds = fresh_holds }
+fresh_bookkeeping = record { clock = 0; denied = none_denied }
 
 -- 'An empty relay is a fresh one.'
 abbrev pub empty : State
@@ -30,25 +27,14 @@ clock_of st = st.bookkeeping.clock
 
 -- the same but for the clock
 abbrev pub at_clock : ℕ → Bookkeeping → Bookkeeping
-at_clock time bookkeeping = record { clock = time; denied = bookkeeping.denied; holds = bookkeeping.holds }
+at_clock time bookkeeping = record { clock = time; denied = bookkeeping.denied }
 
 abbrev pub at_time : ℕ → State → State
 at_time time st = state st.slots (at_clock time st.bookkeeping)
 
--- the same but for the holds
-abbrev pub keeping : HeldPorts → Bookkeeping → Bookkeeping
-keeping holds bookkeeping = record { clock = bookkeeping.clock; denied = bookkeeping.denied; holds = holds }
-
--- the holds of a state, and the same state but for them
-abbrev pub holds_in : State → List Hold
-holds_in st = st.bookkeeping.holds.entries
-
-abbrev pub with_holds : List Hold → State → State
-with_holds holds st = state st.slots (keeping (record { entries = holds }) st.bookkeeping)
-
 -- the same but for the tree of denied prefixes
 abbrev pub with_denied : (nodes : List ℕ) → Bookkeeping → Bookkeeping
-with_denied nodes bookkeeping = record { clock = bookkeeping.clock; denied = nodes; holds = bookkeeping.holds }
+with_denied nodes bookkeeping = record { clock = bookkeeping.clock; denied = nodes }
 
 -- the same state, where it meets that tree
 abbrev pub meeting : (nodes : List ℕ) → State → State

@@ -6,10 +6,10 @@ use Rattle.slot.specs.declared.Found.TheVariants.{At, Nothing}
 use Rattle.rules.specs.declared.answer.Outcome.{Outcome}
 use Rattle.rules.specs.Change.{Change, keep, write, out_of}
 use Rattle.interface.specs.declared.incoming.Call.{Call}
-use Rattle.state.specs.State.{State, clock_of, at_time, holds_in, with_holds, with_slots}
+use Rattle.state.specs.State.{State, clock_of, at_time, with_slots}
 use Rattle.state.specs.Outcomes.{Act, refuse, accept, Does}
 use Rattle.interface.specs.Refusals.{time_of, lengths, refusal}
-use Rattle.decisions.specs.Decisions.{Decision, names_denied, decided, holds_after}
+use Rattle.decisions.specs.Decisions.{Decision, names_denied, decided}
 
 -- ---- The act
 
@@ -21,15 +21,11 @@ done st Nothing change = accept st (out_of change)
 
 -- what is decided in a state
 abbrev pub decision : State → Call → List ℕ → Decision
-decision st call s = decided (names_denied st.bookkeeping.denied call s) (holds_in st) call s st.slots
-
--- the state that it meets, with the holds that it leaves
-abbrev pub holding : State → Call → List ℕ → State
-holding st call s = with_holds (holds_after call s (decision st call s).change (holds_in st)) st
+decision st call s = decided (names_denied st.bookkeeping.denied call s) call s st.slots
 
 -- a call that is not refused: 'clock = now'
 unfoldable pub accepted : State → Call → List ℕ → Act
-accepted st call s = done (at_time (time_of call) (holding st call s)) (decision st call s).place (decision st call s).change
+accepted st call s = done (at_time (time_of call) st) (decision st call s).place (decision st call s).change
 
 -- what a call with this datagram and a reply buffer of this length does
 unfoldable pub act : State → Call → List ℕ → ℕ → Act

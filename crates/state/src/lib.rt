@@ -1,31 +1,23 @@
 // The relay's state: the slots, and what is kept beside them. One step over it is a definition (specs/Step.antt), with its laws in proofs/; the
 // functions that take the step are the relay's.
 ghost use Rattle.std.specs.Prelude.{◌≡◌};
-ghost use Rattle.state.specs.State.{fresh_bookkeeping, at_clock, keeping, denying};
+ghost use Rattle.state.specs.State.{fresh_bookkeeping, at_clock, denying};
 
 use denied::read_denied;
 use denied::tree::none_denied;
-use hold::{HeldPorts, fresh_holds};
 
-// The clock, the time of the last call that was not refused; the tree of denied prefixes, which no call changes; and the holds, which an
-// accepted Allocate alone changes.
+// The clock, the time of the last call that was not refused; and the tree of denied prefixes, which no call changes.
 #[derive(Drop)]
 pub struct Bookkeeping {
     pub clock: u64,
     pub denied: [u16; 1536],
-    pub holds: HeldPorts,
 }
 
 pub fn fresh_bookkeeping() -> Bookkeeping
     ensures { result ≡ fresh_bookkeeping }
 {
     let denied = none_denied();
-    let holds = fresh_holds();
-    Bookkeeping {
-        clock: 0,
-        denied,
-        holds,
-    }
+    Bookkeeping { clock: 0, denied }
 }
 
 // In place: nothing else of the struct is touched.
@@ -33,20 +25,6 @@ pub fn set_clock(bookkeeping: &mut Bookkeeping, time: u64)
     ensures { bookkeeping.new ≡ at_clock time bookkeeping.old }
 {
     bookkeeping.clock = time;
-}
-
-// The holds by value: an Allocate looks them over.
-pub fn holds_of(bookkeeping: &mut Bookkeeping) -> HeldPorts
-    ensures { (result ≡ bookkeeping.old.holds) × (bookkeeping.new ≡ bookkeeping.old) }
-{
-    bookkeeping.holds
-}
-
-// In place: nothing else of the struct is touched.
-pub fn set_holds(bookkeeping: &mut Bookkeeping, holds: HeldPorts)
-    ensures { bookkeeping.new ≡ keeping holds bookkeeping.old }
-{
-    bookkeeping.holds = holds;
 }
 
 // What became of a text of denied prefixes: the number that it is refused with, or 0; how many nodes its tree has; and what is kept afterwards.
@@ -64,11 +42,9 @@ pub fn deny(bookkeeping: Bookkeeping, text: &[u8]) -> Denying
     let old = bookkeeping.denied;
     let reading = read_denied(text, old);
     let denied = reading.nodes;
-    let holds = bookkeeping.holds;
     let kept = Bookkeeping {
         clock: bookkeeping.clock,
         denied,
-        holds,
     };
     Denying {
         number: reading.number,

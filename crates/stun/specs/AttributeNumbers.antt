@@ -1,4 +1,4 @@
--- The attribute numbers of document 01 and of request 4, each once, by their names in RFC 8656 and RFC 8489.
+-- The attribute numbers of document 01, each once, by their names in RFC 8656 and RFC 8489.
 use Rattle.std.specs.Prelude.{ℕ}
 
 -- 'Attributes read: 0x000C CHANNEL-NUMBER, 0x000D LIFETIME, 0x0012 XOR-PEER-ADDRESS, 0x0013 DATA, 0x0017 REQUESTED-ADDRESS-FAMILY, 0x0019
@@ -20,13 +20,6 @@ requested_address_family = 0x0017
 
 abbrev pub requested_transport : ℕ
 requested_transport = 0x0019
-
--- request 4: 'Support EVEN-PORT (0x0018, 1 byte, top bit R) and RESERVATION-TOKEN (0x0022, 8 bytes, from eight bytes the call brings, ..).'
-abbrev pub even_port : ℕ
-even_port = 0x0018
-
-abbrev pub reservation_token : ℕ
-reservation_token = 0x0022
 
 -- 'Known and skipped: 0x0001, 0x0006, 0x0008, 0x0009, 0x000A, 0x0014, 0x0015, 0x0016, 0x001C, 0x001D, 0x001E, 0x0020.'
 abbrev pub mapped_address : ℕ

@@ -65,7 +65,7 @@ message_kinds =
 abbrev pub message_kind_of : ℕ → MessageKind
 message_kind_of n = lookup n message_kinds Other
 
--- 'Attributes read', request 4's among them, and then 'Known and skipped'
+-- 'Attributes read', and then 'Known and skipped'
 abbrev pub attribute_kinds : List (ℕ × AttributeKind)
 attribute_kinds =
     (attribute.channel_number, Is.ChannelNumber)
@@ -74,8 +74,6 @@ attribute_kinds =
     ∷ (attribute.«data», Is.Data)
     ∷ (attribute.requested_address_family, Is.RequestedAddressFamily)
     ∷ (attribute.requested_transport, Is.RequestedTransport)
-    ∷ (attribute.even_port, Is.EvenPort)
-    ∷ (attribute.reservation_token, Is.ReservationToken)
     ∷ (attribute.mapped_address, Is.Skipped)
     ∷ (attribute.username, Is.Skipped)
     ∷ (attribute.message_integrity, Is.Skipped)
@@ -101,7 +99,5 @@ unknown_kind Is.XorPeerAddress = false
 unknown_kind Is.Data = false
 unknown_kind Is.RequestedAddressFamily = false
 unknown_kind Is.RequestedTransport = false
-unknown_kind Is.EvenPort = false
-unknown_kind Is.ReservationToken = false
 unknown_kind Is.Skipped = false
 unknown_kind Is.Unknown = true

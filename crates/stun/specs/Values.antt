@@ -1,4 +1,4 @@
--- Document 01's 'Reading a client's datagram': the values of attributes; and those of request 4's two attributes.
+-- Document 01's 'Reading a client's datagram': the values of attributes.
 use Rattle.std.specs.Prelude.{ℕ, ◌+◌, List, [], ◌∷◌, true, false, get_or, eqb}
 use Rattle.std.specs.Int.Bits.{bit_xor}
 use Rattle.wire.specs.Wire.{num}
@@ -12,8 +12,6 @@ use Rattle.stun.specs.declared.message.ValuePlace.TheVariants as Place
 use Rattle.stun.specs.declared.values.AddressValue.{AddressValue}
 use Rattle.stun.specs.declared.values.NumberValue.{NumberValue}
 use Rattle.stun.specs.declared.values.NumberValue.TheVariants.{Number, WrongLength, Absent}
-use Rattle.stun.specs.declared.values.TokenValue.{TokenValue}
-use Rattle.stun.specs.declared.values.TokenValue.TheVariants.{Token, TokenWrongLength, TokenAbsent}
 use Rattle.stun.specs.AttributeNumbers as attribute
 use Rattle.stun.specs.Kinds.{cookie, cookie_high}
 use Rattle.stun.specs.Message.{attributes, attributes_from, first_of}
@@ -76,20 +74,3 @@ number_in width s Place.Absent = Absent
 -- 'CHANNEL-NUMBER, LIFETIME, family and transport values are 4 bytes: the number is in the first 2, all 4, first 1, first 1; the rest is not checked.'
 unfoldable pub number_value : ℕ → ℕ → List ℕ → NumberValue
 number_value width number s = number_in width s (first_of number (attributes s))
-
--- ---- EVEN-PORT and RESERVATION-TOKEN
-
--- request 4: EVEN-PORT's value has 1 byte, RESERVATION-TOKEN's 8: the number is in all of them
-abbrev pub even_port_in : List ℕ → ValuePlace → NumberValue
-even_port_in s (Place.Value start len) = pick (eqb len 1) (Number (num s start 1)) WrongLength
-even_port_in s Place.Absent = Absent
-
-unfoldable pub even_port : List ℕ → NumberValue
-even_port s = even_port_in s (first_of attribute.even_port (attributes s))
-
-abbrev pub token_in : List ℕ → ValuePlace → TokenValue
-token_in s (Place.Value start len) = pick (eqb len 8) (Token (num s start 8)) TokenWrongLength
-token_in s Place.Absent = TokenAbsent
-
-unfoldable pub reservation_token : List ℕ → TokenValue
-reservation_token s = token_in s (first_of attribute.reservation_token (attributes s))

@@ -127,8 +127,6 @@ pub enum AttributeKind {
     Data,
     RequestedAddressFamily,
     RequestedTransport,
-    EvenPort,
-    ReservationToken,
     Skipped,
     Unknown,
 }
@@ -160,8 +158,6 @@ impl AttributeKind {
 
     pub const REQUESTED_ADDRESS_FAMILY: u16 = 0x0017;
 
-    pub const EVEN_PORT: u16 = 0x0018;
-
     pub const REQUESTED_TRANSPORT: u16 = 0x0019;
 
     pub const MESSAGE_INTEGRITY_SHA256: u16 = 0x001c;
@@ -171,8 +167,6 @@ impl AttributeKind {
     pub const USERHASH: u16 = 0x001e;
 
     pub const XOR_MAPPED_ADDRESS: u16 = 0x0020;
-
-    pub const RESERVATION_TOKEN: u16 = 0x0022;
     // From here on an attribute need not be understood.
     pub const COMPREHENSION_OPTIONAL: u16 = 0x8000;
 
@@ -186,8 +180,6 @@ impl AttributeKind {
             AttributeKind::DATA => AttributeKind::Data,
             AttributeKind::REQUESTED_ADDRESS_FAMILY => AttributeKind::RequestedAddressFamily,
             AttributeKind::REQUESTED_TRANSPORT => AttributeKind::RequestedTransport,
-            AttributeKind::EVEN_PORT => AttributeKind::EvenPort,
-            AttributeKind::RESERVATION_TOKEN => AttributeKind::ReservationToken,
             AttributeKind::MAPPED_ADDRESS => AttributeKind::Skipped,
             AttributeKind::USERNAME => AttributeKind::Skipped,
             AttributeKind::MESSAGE_INTEGRITY => AttributeKind::Skipped,
@@ -220,8 +212,6 @@ impl AttributeKind {
             AttributeKind::Data => false,
             AttributeKind::RequestedAddressFamily => false,
             AttributeKind::RequestedTransport => false,
-            AttributeKind::EvenPort => false,
-            AttributeKind::ReservationToken => false,
             AttributeKind::Skipped => false,
             AttributeKind::Unknown => true,
         }

@@ -1,14 +1,14 @@
-// The values of a STUN message: its transaction id, its address values, its numbers of four bytes, EVEN-PORT and RESERVATION-TOKEN.
+// The values of a STUN message: its transaction id, its address values and its numbers of four bytes.
 ghost use Rattle.std.specs.Prelude.{◌≡◌, ◌+◌, ◌^◌, ◌<◌, ◌≤◌, length};
 ghost use Rattle.wire.specs.Wire.{num};
 ghost use Rattle.stun.specs.AttributeNumbers.{channel_number, lifetime, requested_address_family, requested_transport};
-ghost use Rattle.stun.specs.Values.{transaction_id_of, malformed, v4_at, v6_at, address_at, first_peer, number_value, even_port, reservation_token};
+ghost use Rattle.stun.specs.Values.{transaction_id_of, malformed, v4_at, v6_at, address_at, first_peer, number_value};
 ghost use Rattle.stun.specs.Inner.{NextPeer, width_of, Below};
 
 use crate::kinds::AttributeKind;
 use crate::message::{Reading, ValuePlace, first_attribute, next_attribute};
 use address::{Address, TransactionId, TransportAddress};
-use wire::{u8_at, u16_at, u32_at, u64_at, xor_u16, xor_u32};
+use wire::{u8_at, u16_at, u32_at, xor_u16, xor_u32};
 
 pub fn transaction_id(s: &[u8]) -> TransactionId
     requires { 20 ≤ length s.now }
@@ -161,7 +161,7 @@ fn number_at(s: &[u8], at: usize, width: Width) -> u32
 #[derive(Drop)]
 pub enum NumberValue {
     Number(u32),
-    // Present, and of another length than its type is to have.
+    // Present, and not of 4 bytes.
     WrongLength,
     Absent,
 }
@@ -203,44 +203,4 @@ pub fn requested_transport(s: &[u8]) -> NumberValue
     ensures { (result ≡ number_value 1 requested_transport s.now) × Below (256 ^ 1) result }
 {
     number_value(s, AttributeKind::REQUESTED_TRANSPORT, Width::One)
-}
-
-// ---- EVEN-PORT and RESERVATION-TOKEN
-
-// EVEN-PORT: the number is its one byte.
-pub fn even_port(s: &[u8]) -> NumberValue
-    ensures { (result ≡ even_port s.now) × Below (256 ^ 1) result }
-{
-    match first_attribute(s, AttributeKind::EVEN_PORT) {
-        ValuePlace::Value { start, len } => {
-            if len == 1 {
-                return NumberValue::Number(u8_at(s, start) as u32);
-            }
-            NumberValue::WrongLength
-        }
-        ValuePlace::Absent => NumberValue::Absent,
-    }
-}
-
-#[derive(Drop)]
-pub enum TokenValue {
-    Token(u64),
-    // Present, and not of 8 bytes.
-    TokenWrongLength,
-    TokenAbsent,
-}
-
-// RESERVATION-TOKEN: the token is all of its eight bytes.
-pub fn reservation_token(s: &[u8]) -> TokenValue
-    ensures { result ≡ reservation_token s.now }
-{
-    match first_attribute(s, AttributeKind::RESERVATION_TOKEN) {
-        ValuePlace::Value { start, len } => {
-            if len == 8 {
-                return TokenValue::Token(u64_at(s, start));
-            }
-            TokenValue::TokenWrongLength
-        }
-        ValuePlace::Absent => TokenValue::TokenAbsent,
-    }
 }

@@ -5,10 +5,11 @@ use mathlib.Core.Bool.{Bool, true, false, not, false≢true}
 use mathlib.Core.List.{List, [], ◌∷◌, ◌++◌}
 use native.Mathlib.Numerals.{add-one}
 use native.Mathlib.Omega.{arith}
+use borrow.Author.Tests.{eqb-true, eqb-false, eq-eqb, ne_eqb}
 use lib.Dec.{eqb}
-use lib.ListN.{length, get_or, take, length-take}
-use lib.Seq.{take-suc, take_all, length-take-le}
-use Rattle.choice.specs.Choice.{pick, both, either}
+use lib.ListN.{length, get_or, set, take, length-take}
+use lib.Seq.{take-suc, take_all, length-take-le, get_or-set_same, get_or-set_other}
+use Rattle.choice.specs.Choice.{pick, both}
 use Rattle.slot.specs.declared.Allocation.{Allocation}
 use Rattle.slot.specs.declared.Found.{Found}
 use Rattle.slot.specs.declared.Found.TheVariants.{At, Nothing}
@@ -16,7 +17,6 @@ use Rattle.slot.specs.declared.Slot.{Slot}
 use Rattle.slot.specs.Inner.{held_in}
 use Rattle.slot.specs.Search.{further, find, has, or_else, at_or}
 use Rattle.slot.specs.Slot.{fresh_slot, live_allocation, holds, holds_user, holds_port}
-use Rattle.slot.proofs.More.{find_more, has_more, else_none, unmarked}
 use Rattle.table.specs.declared.surveys.Survey.{Survey}
 use Rattle.table.specs.declared.keys.Key.{Key}
 use Rattle.table.specs.declared.keys.Key.TheVariants.{Client, Port}
@@ -24,8 +24,27 @@ use Rattle.table.specs.declared.keys.Wanted.{Wanted}
 use Rattle.table.specs.Table.{slot_at, in_slot, count, lapsed}
 use Rattle.table.specs.Inner.{keyed, searched, Surveyed, Looked, place_of, Within, SurveyedWith}
 
--- ---- the lowest entry that passes, and how many do
+-- ---- one more entry at the end of a list
+further_else : (found : Found) (passes : Bool) (i : ℕ) → further (or_else found (pick passes (At i) Nothing)) ≡ or_else (further found) (pick passes (At (suc i)) Nothing)
+further_else (At j) passes i = refl
+further_else Nothing true i = refl
+further_else Nothing false i = refl
+
+has_else : (found : Found) (passes : Bool) (i : ℕ) → has (or_else found (pick passes (At i) Nothing)) ≡ pick (has found) true passes
+has_else (At j) passes i = refl
+has_else Nothing true i = refl
+has_else Nothing false i = refl
+
 module _ {A : Type 0} (p : A → Bool) where
+  find_more : (l : List A) (x : A) → find p (l ++ x ∷ []) ≡ or_else (find p l) (pick (p x) (At (length l)) Nothing)
+  unfolding find
+  find_more [] x = refl
+  find_more (y ∷ l) x = rw (find_more l x) (here (p y))
+    where
+      here : (b : Bool) → pick b (At 0) (further (or_else (find p l) (pick (p x) (At (length l)) Nothing))) ≡ or_else (pick b (At 0) (further (find p l))) (pick (p x) (At (suc (length l))) Nothing)
+      here true = refl
+      here false = further_else (find p l) (p x) (length l)
+
   -- what is found is one of the list's
   pub find_within : (l : List A) {i : ℕ} → find p l ≡ At i → i < length l
   unfolding find
@@ -40,6 +59,9 @@ module _ {A : Type 0} (p : A → Bool) where
   pub found_within : (l : List A) (found : Found) → found ≡ find p l → Within found (length l)
   found_within l (At i) e = find_within l (sym e)
   found_within l Nothing e = tt
+
+  has_more : (l : List A) (x : A) → has (find p (l ++ x ∷ [])) ≡ pick (has (find p l)) true (p x)
+  has_more l x = ap has (find_more l x) ∙ has_else (find p l) (p x) (length l)
 
   count_more : (l : List A) (x : A) → count p (l ++ x ∷ []) ≡ pick (p x) (count p l + 1) (count p l)
   unfolding count
@@ -61,22 +83,44 @@ module _ {A : Type 0} (p : A → Bool) where
       here true most = omega arith
       here false most = omega arith
 
+-- ---- one more port: p
+pub unmarked : (x : Bool) {b : Bool} → b ≡ false → x ≡ pick x true b
+unmarked true none = refl
+unmarked false none = sym none
+
+module _ (ports : List Bool) {marked : List Bool} {p k : ℕ} where
+  pub mark_at : marked ≡ set ports k true → p ≡ 49152 + k → k < length ports → (j : ℕ) → get_or marked j false ≡ pick (get_or ports j false) true (eqb p (49152 + j))
+  mark_at e at within j = rw e (by_case (eqb j k) refl)
+    where
+      held : (x : Bool) → true ≡ pick x true true
+      held true = refl
+      held false = refl
+
+      by_case : (b : Bool) → eqb j k ≡ b → get_or (set ports k true) j false ≡ pick (get_or ports j false) true (eqb p (49152 + j))
+      by_case true t = rw (eqb-true j k t, get_or-set_same, eq-eqb p (49152 + k) at) (held (get_or ports k false))
+      by_case false f =
+          rw (get_or-set_other ports k j true false (eqb-false j k f))
+          (unmarked (get_or ports j false) (ne_eqb p (49152 + j) (λ same. eqb-false j k f (omega arith))))
+
 -- ---- one more slot
 pub surveyed_with : {survey more : Survey} {i : ℕ} {wanted : Wanted} {allocation : Allocation}
     → more.own ≡ or_else survey.own (pick (keyed wanted.time wanted.key allocation) (At i) Nothing)
     → more.held ≡ pick (holds_user wanted.time wanted.user allocation) (survey.held + 1) survey.held
     → more.free ≡ or_else survey.free (pick (lapsed wanted.time allocation) (At i) Nothing)
-    → ((k : ℕ) → k < 128 → get_or (held_in more.ports) k false ≡ either (get_or (held_in survey.ports) k false) (holds_port wanted.time (49152 + k) allocation))
-    → more.taken ≡ either survey.taken (holds_port wanted.time wanted.port allocation) → SurveyedWith survey i wanted allocation more
-surveyed_with {survey} {more} {i} {wanted} {allocation} own held free ports taken l slot here same before = record {
+    → ((k : ℕ) → k < 128 → get_or (held_in more.ports) k false ≡ pick (get_or (held_in survey.ports) k false) true (holds_port wanted.time (49152 + k) allocation))
+    → SurveyedWith survey i wanted allocation more
+surveyed_with {survey} {more} {i} {wanted} {allocation} own held free ports l slot here same before = record {
   own = rw (find_more (in_slot (keyed wanted.time wanted.key)) l slot, ← before.own, same, here) own;
   held = rw (count_more (in_slot (holds_user wanted.time wanted.user)) l slot, ← before.held, same) held;
   free = rw (find_more (in_slot (lapsed wanted.time)) l slot, ← before.free, same, here) free;
   ports = λ k h. rw (has_more (in_slot (holds_port wanted.time (49152 + k))) l slot, ← before.ports k h, same) (ports k h);
-  taken = rw (has_more (in_slot (holds_port wanted.time wanted.port)) l slot, ← before.taken, same) taken;
 }
 
 -- ---- one more slot, by the tests that are made: it isn't live; or it is, and then it has the key or has not
+pub else_none : (found : Found) → found ≡ or_else found Nothing
+else_none (At i) = refl
+else_none Nothing = refl
+
 module _ (time : ℕ) (allocation : Allocation) where
   lapsed_key : live_allocation time allocation ≡ false → (key : Key) → keyed time key allocation ≡ false
   unfolding keyed holds holds_port both
@@ -93,25 +137,23 @@ module _ (time : ℕ) (allocation : Allocation) where
 
 module _ {survey more : Survey} {i : ℕ} {wanted : Wanted} {allocation : Allocation} where
   pub surveyed_lapsed : live_allocation wanted.time allocation ≡ false → more.own ≡ survey.own → more.held ≡ survey.held
-      → more.free ≡ or_else survey.free (At i) → more.ports ≡ survey.ports → more.taken ≡ survey.taken → SurveyedWith survey i wanted allocation more
+      → more.free ≡ or_else survey.free (At i) → more.ports ≡ survey.ports → SurveyedWith survey i wanted allocation more
   unfolding both
-  surveyed_lapsed dead own held free ports taken =
+  surveyed_lapsed dead own held free ports =
       surveyed_with
       (rw (lapsed_key wanted.time allocation dead wanted.key) (own ∙ else_none survey.own))
       (rw (lapsed_user wanted.time allocation dead wanted.user) held)
       (rw dead free)
       (λ k h. rw (live_port wanted.time allocation dead (49152 + k), ports) (unmarked _ refl))
-      (rw (live_port wanted.time allocation dead wanted.port) (taken ∙ unmarked _ refl))
 
   pub surveyed_live : live_allocation wanted.time allocation ≡ true
       → more.own ≡ or_else survey.own (pick (keyed wanted.time wanted.key allocation) (At i) Nothing)
       → more.held ≡ pick (holds_user wanted.time wanted.user allocation) (survey.held + 1) survey.held → more.free ≡ survey.free
-      → ((k : ℕ) → k < 128 → get_or (held_in more.ports) k false ≡ either (get_or (held_in survey.ports) k false) (eqb allocation.port (49152 + k)))
-      → more.taken ≡ either survey.taken (eqb allocation.port wanted.port) → SurveyedWith survey i wanted allocation more
+      → ((k : ℕ) → k < 128 → get_or (held_in more.ports) k false ≡ pick (get_or (held_in survey.ports) k false) true (eqb allocation.port (49152 + k)))
+      → SurveyedWith survey i wanted allocation more
   unfolding both
-  surveyed_live lives own held free ports taken =
+  surveyed_live lives own held free ports =
       surveyed_with own held (rw lives (free ∙ else_none survey.free)) (λ k h. rw (live_port wanted.time allocation lives (49152 + k)) (ports k h))
-      (rw (live_port wanted.time allocation lives wanted.port) taken)
 
 -- ---- a loop over the slots: it has surveyed the first i
 module _ (l : List Slot) (i : ℕ) {wanted : Wanted} {survey : Survey} where

@@ -32,8 +32,6 @@ pub record Surveyed (l : List Slot) (wanted : Wanted) (survey : Survey) : Type 0
   pub free : survey.free ≡ find (in_slot (lapsed wanted.time)) l
   -- of each 'port 49152 + k', whether a 'live slot holds' it
   pub ports : (k : ℕ) → k < 128 → get_or (held_in survey.ports) k false ≡ has (find (in_slot (holds_port wanted.time (49152 + k))) l)
-  -- 'where a live slot has that port'
-  pub taken : survey.taken ≡ has (find (in_slot (holds_port wanted.time wanted.port)) l)
 
 -- and one that goes no further than the slot of the key, where no room is wanted
 pub record Looked (l : List Slot) (wanted : Wanted) (survey : Survey) : Type 0 where

@@ -23,15 +23,13 @@ pub(crate) fn matches(time: u64, key: Key, allocation: Allocation) -> bool
     }
 }
 
-// The live slot of a key at that time; and where an allocation is to be made, the room that there is for that user, and whether a port is
-// held by a live slot.
+// The live slot of a key at that time; and where an allocation is to be made, the room that there is for that user.
 #[derive(Drop)]
 pub struct Wanted {
     pub time: u64,
     pub key: Key,
     pub room: bool,
     pub user: u8,
-    pub port: u16,
 }
 
 pub(crate) fn wants_room(wanted: Wanted) -> bool

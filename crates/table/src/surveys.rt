@@ -1,12 +1,12 @@
 // What a look over the slots learns: a survey of no slots, and of one slot more.
-ghost use Rattle.std.specs.Prelude.{◌≡◌, ◌+◌, ◌<◌, ◌^◌};
+ghost use Rattle.std.specs.Prelude.{◌≡◌, true, false, ℕ, ◌+◌, ◌<◌, ◌^◌, eqb, get_or};
 ghost use Rattle.choice.specs.Choice.{pick};
+ghost use Rattle.slot.specs.Inner.{held_in};
 ghost use Rattle.table.specs.Inner.{place_of, SurveyedNone, SurveyedWith};
 
 use crate::keys::{Wanted, matches};
-use choice::either;
 use slot::allocations::{allocation_is_live, holds_user};
-use slot::ports::{Ports, mark, no_ports};
+use slot::ports::{Ports, no_ports, with_port};
 use slot::{Allocation, Found, or_else};
 
 #[derive(Drop)]
@@ -19,8 +19,6 @@ pub struct Survey {
     pub free: Found,
     // The ports that live slots hold.
     pub ports: Ports,
-    // Whether a live slot holds the port that is asked about.
-    pub taken: bool,
 }
 
 pub(crate) fn first_survey() -> Survey
@@ -31,7 +29,6 @@ pub(crate) fn first_survey() -> Survey
         held: 0,
         free: Found::Nothing,
         ports: no_ports(),
-        taken: false,
     }
 }
 
@@ -44,7 +41,6 @@ pub(crate) fn only_own(own: Found) -> Survey
         held: 0,
         free: Found::Nothing,
         ports: no_ports(),
-        taken: false,
     }
 }
 
@@ -63,6 +59,16 @@ fn counted(count: usize, counts: bool) -> usize
     ensures { result ≡ pick counts (count + 1) count }
 {
     if counts { count + 1 } else { count }
+}
+
+// The ports with this one held too, if it is one of the 128 from 49152 on, which is 384 * 128.
+fn mark(port: u16, ports: Ports) -> Ports
+    ensures { (k : ℕ) → k < 128 → get_or (held_in result) k false ≡ pick (get_or (held_in ports) k false) true (eqb port (49152 + k)) }
+{
+    if port / 128 != 384 {
+        return ports;
+    }
+    with_port(ports, (port % 128) as u64)
 }
 
 // The survey of the slots before slot i and of it, which has this allocation. What most slots are is tested first.
@@ -85,12 +91,10 @@ pub(crate) fn surveyed_with(
             held: survey.held,
             free: or_else(free, Found::At(i)),
             ports: marked,
-            taken: survey.taken,
         };
     }
     let held = counted(survey.held, holds_user(time, wanted.user, allocation));
     let ports = mark(allocation.port, marked);
-    let taken = either(survey.taken, allocation.port == wanted.port);
     let key = wanted.key;
     if !matches(time, key, allocation) {
         return Survey {
@@ -98,7 +102,6 @@ pub(crate) fn surveyed_with(
             held,
             free,
             ports,
-            taken,
         };
     }
     Survey {
@@ -106,6 +109,5 @@ pub(crate) fn surveyed_with(
         held,
         free,
         ports,
-        taken,
     }
 }

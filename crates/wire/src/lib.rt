@@ -28,13 +28,6 @@ pub fn u32_at(s: &[u8], at: usize) -> u32
     (u16_at(s, at) as u32) * 65536 + u16_at(s, at + 2) as u32
 }
 
-pub fn u64_at(s: &[u8], at: usize) -> u64
-    requires { at + 8 ≤ length s.now }
-    ensures { result ≡ num s.now at 8 }
-{
-    (u32_at(s, at) as u64) * 4294967296 + u32_at(s, at + 4) as u64
-}
-
 // The len bytes from start on, shown and not copied; the empty part where they lie outside.
 pub fn part(s: &[u8], start: usize, len: usize) -> &[u8]
     ensures { result.now ≡ part_of s.now start len }
@@ -93,21 +86,6 @@ pub fn put_u32_at(out: &mut [u8], at: usize, n: u32)
     ensures { WroteAt at (bytes_of 4 n) out.old out.new }
 {
     put_u32(&mut out[at..], n);
-}
-
-pub(crate) fn put_u64(out: &mut [u8], n: u64)
-    requires { 8 ≤ length out.old }
-    ensures { Wrote (bytes_of 8 n) out.old out.new }
-{
-    put_u32(out, (n / 4294967296) as u32);
-    put_u32_at(out, 4, (n % 4294967296) as u32);
-}
-
-pub fn put_u64_at(out: &mut [u8], at: usize, n: u64)
-    requires { at + 8 ≤ length out.old }
-    ensures { WroteAt at (bytes_of 8 n) out.old out.new }
-{
-    put_u64(&mut out[at..], n);
 }
 
 // All of v.

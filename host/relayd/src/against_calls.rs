@@ -2,11 +2,11 @@
 
 use crate::admission::{garbage, garbage_from_peer};
 use crate::denied::Denied;
-use crate::ledger::{Change, Choice, Ledger, place};
+use crate::ledger::{Change, Ledger, place};
 use crate::line::{self, Answer};
 use crate::pipe::is_accepted;
 use crate::relay::Reason;
-use crate::stun::{self, CHANNEL_NUMBER, EVEN_PORT, LIFETIME, REQUESTED_TRANSPORT, RESERVATION_TOKEN, XOR_PEER_ADDRESS, ipv4_value};
+use crate::stun::{self, CHANNEL_NUMBER, LIFETIME, REQUESTED_TRANSPORT, XOR_PEER_ADDRESS, ipv4_value};
 use crate::sys::memory;
 use crate::{rebuild, relayed};
 use std::fmt::Write as _;
@@ -74,27 +74,19 @@ fn any_request(seed: &mut u64, clients: u64) -> (SocketAddr, u32, Vec<u8>) {
     let (one, two) = ((XOR_PEER_ADDRESS, &first[..]), (XOR_PEER_ADDRESS, &second[..]));
     // Few ids, so that some Allocates are repeats.
     let transaction = [small(seed, 2); 12];
-    // An even port with the next, the one that is reserved, an even one, or any.
-    let wish: (u16, &[u8]) = match below(seed, 6) {
-        0 | 1 => (EVEN_PORT, &[0x80]),
-        2 | 3 => (RESERVATION_TOKEN, &[0; 8]),
-        4 => (EVEN_PORT, &[0x7f]),
-        _ => (0x8000, &[]),
-    };
-    let mut request = match below(seed, 12) {
-        0..=2 => stun::request_of(
+    let mut request = match below(seed, 10) {
+        0 | 1 => stun::request_of(
             transaction,
             stun::ALLOCATE,
-            &[(REQUESTED_TRANSPORT, &[17, 0, 0, 0]), (LIFETIME, &long), wish],
+            &[(REQUESTED_TRANSPORT, &[17, 0, 0, 0]), (LIFETIME, &long)],
         ),
-        3 => stun::request(stun::REFRESH, &[(LIFETIME, &long), (LIFETIME, &short)]),
-        4 => stun::request(stun::REFRESH, &[(LIFETIME, &short)]),
-        5 => stun::request(stun::REFRESH, &[(LIFETIME, &[0; 4])]),
-        6..=8 => stun::request(
+        2 => stun::request(stun::REFRESH, &[(LIFETIME, &long), (LIFETIME, &short)]),
+        3 => stun::request(stun::REFRESH, &[(LIFETIME, &short)]),
+        4..=6 => stun::request(
             stun::CREATE_PERMISSION,
             [&[one][..], &[one, (0x0008, &[0; 20]), two]][small::<usize>(seed, 2)],
         ),
-        9 => stun::request(stun::CREATE_PERMISSION, &[one, two]),
+        7 => stun::request(stun::CREATE_PERMISSION, &[one, two]),
         _ => stun::request(
             stun::CHANNEL_BIND,
             &[two, (CHANNEL_NUMBER, &channel), one, (CHANNEL_NUMBER, &[0x4f; 4])],
@@ -168,10 +160,6 @@ struct Met {
     no_room: usize,
     accepted: usize,
     told_again: usize,
-    /// Reservations used, and at the end of a round those that wait, and those that a new program does not have.
-    used: usize,
-    waiting: usize,
-    lost: usize,
     /// Datagrams to and from peers with a permission, with one that has lapsed, with one that has lapsed and is forgotten, and with none.
     live: usize,
     lapsed: usize,
@@ -219,41 +207,15 @@ fn hold_permissions(ledger: &Ledger, now: u64, whole: &[u8], met: &mut Met) {
     }
 }
 
-/// The ports that the relay gives to somebody who brings the token of a reservation after these lines: one at most.
-fn reserved(lines: &[u8], now: u64) -> Vec<u16> {
-    let request = stun::request(
-        stun::ALLOCATE,
-        &[(REQUESTED_TRANSPORT, &[17, 0, 0, 0]), (RESERVATION_TOKEN, &[0; 8])],
-    );
-    let (mut lines, mut reply) = (lines.to_vec(), Vec::new());
-    line::client(&mut lines, now, 32, 0, SocketAddr::from(([198, 51, 100, 8], 1)), &request);
-    let (answers, _) = ask(&lines);
-    let answer = answers.last().and_then(|answer| line::read(answer.as_bytes(), &mut reply));
-    assert!(matches!(answer, Some(Answer::ToClient(_))) && matches!(stun::error_code(&reply), None | Some(508)));
-    stun::relayed_address(&reply).iter().map(SocketAddrV4::port).collect()
-}
-
-/// What the ledger has reserved the program has too, and a new one what the ledger has with an allocation.
-fn hold_reservations(ledger: &Ledger, now: u64, whole: &[u8], rebuilt: &[u8], met: &mut Met) {
-    let waiting: Vec<u16> = ledger.reserved().map(|(port, _)| port).collect();
-    assert_eq!(waiting, reserved(whole, now), "at {now}");
-    let made_again = ledger.allocations().filter(|own| ledger.reserved_with(own).is_some());
-    let kept: Vec<u16> = made_again.map(|own| own.relay_port + 1).collect();
-    assert_eq!(kept, reserved(rebuilt, now), "at {now}");
-    met.waiting += waiting.len();
-    met.lost += waiting.len() - kept.len();
-}
-
 /// A ledger beside a whole history, and the same as it is rebuilt again and again.
 fn history(first: u64, met: &mut Met) {
     let (mut seed, clients) = (first, if first % 2 == 0 { 3 } else { 24 });
-    let steps = [[0, 0, 0, 0, 0, 1, 1], [0, 0, 0, 1, 3, 10, 20]][usize::from(first % 3 != 0)];
     let (mut now, mut whole, mut ledger) = (below(&mut seed, 900), Vec::new(), Ledger::new());
     for _ in 0..12 {
         let mut asked = Vec::new();
         let before = whole.len();
         for _ in 0..60 {
-            now += steps[small::<usize>(&mut seed, 7)];
+            now += [0, 0, 0, 1, 3, 10, 20][small::<usize>(&mut seed, 7)];
             let (client, user, request) = any_request(&mut seed, clients);
             line::client(&mut whole, now, user, small(&mut seed, 65536), client, &request);
             asked.push((now, client, user, request));
@@ -262,7 +224,6 @@ fn history(first: u64, met: &mut Met) {
         let (answers, _) = ask(&whole);
         for ((time, client, user, request), answer) in asked.iter().zip(&answers[skip..]) {
             ledger.lapse(*time);
-            ledger.lapse_reservations(*time);
             if is_accepted(answer.as_bytes()) {
                 let mut reply = Vec::new();
                 line::read(answer.as_bytes(), &mut reply).expect("an answer");
@@ -270,13 +231,11 @@ fn history(first: u64, met: &mut Met) {
                 let (_, change) = ledger.record(*time, *user, *client, request, &reply).expect("it is taken in");
                 met.accepted += 1;
                 met.told_again += usize::from(matches!(change, Change::ToldAgain(_)));
-                met.used += usize::from(matches!(change, Change::Made(_, Choice::Reserved)));
             }
             met.quota += usize::from(answer.ends_with("0009000400000456"));
             met.no_room += usize::from(answer.ends_with("0009000400000508"));
         }
         ledger.lapse(now);
-        ledger.lapse_reservations(now);
         whole.extend(tick(now));
         let (_, listing) = ask(&whole);
         assert_eq!(rows_of(&ledger), by_owner(&listing), "from {first}, at {now}");
@@ -290,7 +249,6 @@ fn history(first: u64, met: &mut Met) {
         assert_eq!(accepted, count + live, "from {first}, at {now}");
         assert_eq!(again[again.len() - live..], kept[kept.len() - live..], "from {first}, at {now}");
         assert_eq!(by_owner(&rebuilt), by_owner(&listing), "from {first}, at {now}");
-        hold_reservations(&ledger, now, &whole, &[&table[..], &tick(now)].concat(), met);
     }
 }
 
@@ -309,7 +267,6 @@ fn the_ledger_has_what_calls_lists_and_makes_it_again() {
         met.live > 1000 && met.lapsed > 1000 && met.forgotten > 100 && met.never > 1000,
         "{met:?}"
     );
-    assert!(met.used > 100 && met.waiting > 100 && met.lost > 10, "{met:?}");
 }
 
 #[test]

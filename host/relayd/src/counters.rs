@@ -1,6 +1,6 @@
 //! What relayd counts beside the allocations' own packets.
 
-use crate::ledger::{Choice, Flow};
+use crate::ledger::Flow;
 use crate::relay::Reason;
 use std::collections::BTreeMap;
 
@@ -111,30 +111,6 @@ impl Cause {
     }
 }
 
-/// Ports that were reserved, and what became of them.
-#[derive(Clone, Copy, Default, Debug, PartialEq, Eq)]
-pub struct Reservations {
-    pub made: u64,
-    pub used: u64,
-    pub unused: u64,
-}
-
-impl Reservations {
-    /// One more allocation that came by its port in this way.
-    pub fn count(&mut self, choice: Choice) {
-        match choice {
-            Choice::Any | Choice::Even => {}
-            Choice::EvenOfTwo => self.made += 1,
-            Choice::Reserved => self.used += 1,
-        }
-    }
-
-    /// Each count, and its word.
-    pub fn each(self) -> [(&'static str, u64); 3] {
-        [("made", self.made), ("used", self.used), ("unused", self.unused)]
-    }
-}
-
 /// All counts since the start.
 #[derive(Default)]
 pub struct Counters {
@@ -147,8 +123,6 @@ pub struct Counters {
     pub accepted: u64,
     /// Error responses, by method and code.
     pub refusals: BTreeMap<(u16, u16), u64>,
-    /// Of the port after an even one.
-    pub reservations: Reservations,
 }
 
 impl Counters {
@@ -205,15 +179,6 @@ mod tests {
                 "peer_other"
             ]
         );
-    }
-
-    #[test]
-    fn reservations_are_counted_when_made_and_when_used() {
-        let mut reservations = Reservations::default();
-        for choice in [Choice::Any, Choice::EvenOfTwo, Choice::Even, Choice::EvenOfTwo, Choice::Reserved] {
-            reservations.count(choice);
-        }
-        assert_eq!(reservations.each(), [("made", 2), ("used", 1), ("unused", 0)]);
     }
 
     #[test]

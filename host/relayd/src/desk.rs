@@ -8,7 +8,7 @@ use crate::drops::Dropped;
 use crate::explain;
 use crate::filter::LetIn;
 use crate::front;
-use crate::ledger::{Allocation, Change, Choice, Ledger, RESERVATION};
+use crate::ledger::{Allocation, Change, Ledger};
 use crate::log::{self, Arrival, Log};
 use crate::recent::Recent;
 use crate::refusals::Refusal;
@@ -159,11 +159,7 @@ impl Desk {
         let whose = users::who(user, name.or_else(|| self.gate.name(user, client)));
         let who = format!("{whose}, client {client}, relay port {relay_port}");
         match &change {
-            Change::Made(seconds, choice) => {
-                self.counters.reservations.count(*choice);
-                let port = chosen(*choice, relay_port);
-                self.event(&format!("allocation made: {who}, for {}{port}", minutes(*seconds)));
-            }
+            Change::Made(seconds) => self.event(&format!("allocation made: {who}, for {}", minutes(*seconds))),
             Change::ToldAgain(seconds) => self.event(&format!("allocation told again: {who}, {} left", minutes(*seconds))),
             Change::Refreshed(seconds) => self.event(&format!("allocation refreshed: {who}, for {}", minutes(*seconds))),
             Change::GivenBack(gone) => self.event(&ended("given back", &who, gone)),
@@ -216,22 +212,7 @@ impl Desk {
             let who = format!("{whose}, client {}, relay port {}", gone.client, gone.relay_port);
             self.event(&ended("lapsed", &who, &gone));
         }
-        for relay_port in self.ledger.lapse_reservations(now) {
-            self.unused(relay_port, "nobody used it");
-        }
         self.tell_counts(now);
-    }
-
-    /// The program has been started again: reservations whose allocation is gone are lost.
-    pub fn lose_reservations(&mut self) {
-        for relay_port in self.ledger.lose_reservations() {
-            self.unused(relay_port, "it is lost with the relay's program");
-        }
-    }
-
-    fn unused(&mut self, relay_port: u16, why: &str) {
-        self.counters.reservations.unused += 1;
-        self.event(&format!("reservation of relay port {relay_port} ended: {why}"));
     }
 
     /// Tells how often refusals and drops came again.
@@ -278,31 +259,9 @@ impl Desk {
     }
 }
 
-/// How an allocation came by its port, where the client has asked for more than any.
-fn chosen(choice: Choice, relay_port: u16) -> String {
-    match choice {
-        Choice::Any => String::new(),
-        Choice::Even => ", an even port as asked".to_string(),
-        Choice::EvenOfTwo => format!(", an even port as asked; {} is reserved for {RESERVATION} s", relay_port + 1),
-        Choice::Reserved => ", by its reservation".to_string(),
-    }
-}
-
 fn ended(how: &str, who: &str, gone: &Allocation) -> String {
     format!(
         "allocation ended, {how}: {who}, {} packets to peers, {} to the client",
         gone.to_peers.packets, gone.to_client.packets
     )
-}
-
-#[cfg(test)]
-mod tests {
-    use super::*;
-
-    #[test]
-    fn a_port_that_was_asked_for_is_told() {
-        let told = [Choice::Any, Choice::Even, Choice::EvenOfTwo, Choice::Reserved].map(|choice| chosen(choice, 49154));
-        let pair = ", an even port as asked; 49155 is reserved for 30 s";
-        assert_eq!(told, ["", ", an even port as asked", pair, ", by its reservation"]);
-    }
 }

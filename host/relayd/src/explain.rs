@@ -1,7 +1,7 @@
 //! Why a request was refused, in words: the relay says a code, and the request and the ledger have the attribute or the limit behind it.
 
 use crate::denied::Denied;
-use crate::ledger::{Allocation, Ledger, RESERVATION, SLOTS};
+use crate::ledger::{Allocation, Ledger, SLOTS};
 use crate::stun;
 use std::fmt::Write;
 use std::net::{SocketAddr, SocketAddrV4};
@@ -24,8 +24,7 @@ pub fn reason(ledger: &Ledger, denied: &Denied, user: u32, from: SocketAddr, req
         443 if method == stun::REFRESH => numbered("REQUESTED-ADDRESS-FAMILY", request, stun::REQUESTED_ADDRESS_FAMILY, "only 1, IPv4"),
         443 => "the peer is IPv6".to_string(),
         486 => format!("user {user} has {}", ledger.held_by(user)),
-        508 if method == stun::ALLOCATE => no_port(ledger, request),
-        508 => no_room(own),
+        508 => no_room(ledger, own, method),
         _ => String::new(),
     }
 }
@@ -39,7 +38,9 @@ fn denied_peer(denied: &Denied, request: &[u8]) -> String {
 /// The name of an attribute, for the ones that real clients send and the relay does not know or takes no other value of.
 fn attribute_name(kind: u16) -> &'static str {
     match kind {
+        0x0018 => " EVEN-PORT",
         0x001a => " DONT-FRAGMENT",
+        0x0022 => " RESERVATION-TOKEN",
         0x0024 => " PRIORITY",
         0x0025 => " USE-CANDIDATE",
         0x002a => " CONNECTION-ID",
@@ -66,40 +67,20 @@ fn numbered(name: &str, request: &[u8], kind: u16, taken: &str) -> String {
 
 /// Which attribute a 400 is about: the first that is missing or has a wrong length, or the channel that is taken.
 fn malformed(own: Option<&Allocation>, request: &[u8]) -> String {
-    let needed = |name: &str, kind: u16| {
-        let missing = (!stun::has(request, kind)).then(|| format!("{name} is missing"));
-        missing.or_else(|| wrong_length(request, name, kind, 4))
+    let wrong = |name: &str, kind: u16, needed: bool| match stun::first(request, kind) {
+        None => needed.then(|| format!("{name} is missing")),
+        Some(value) if value.len() != 4 => Some(format!("{name} has {} bytes", value.len())),
+        Some(_) => None,
     };
     let found = match stun::kind(request) {
-        stun::ALLOCATE => needed("REQUESTED-TRANSPORT", stun::REQUESTED_TRANSPORT),
-        stun::CHANNEL_BIND => needed("CHANNEL-NUMBER", stun::CHANNEL_NUMBER),
+        stun::ALLOCATE => wrong("REQUESTED-TRANSPORT", stun::REQUESTED_TRANSPORT, true),
+        stun::CHANNEL_BIND => wrong("CHANNEL-NUMBER", stun::CHANNEL_NUMBER, true),
         _ => None,
     };
-    let found = found.or_else(|| wrong_length(request, "REQUESTED-ADDRESS-FAMILY", stun::REQUESTED_ADDRESS_FAMILY, 4));
-    let found = found.or_else(|| wrong_length(request, "LIFETIME", stun::LIFETIME, 4));
-    let found = found.or_else(|| wrong_reservation(request));
+    let found = found.or_else(|| wrong("REQUESTED-ADDRESS-FAMILY", stun::REQUESTED_ADDRESS_FAMILY, false));
+    let found = found.or_else(|| wrong("LIFETIME", stun::LIFETIME, false));
     let found = found.or_else(|| channel(own?, request));
     found.unwrap_or_else(|| "XOR-PEER-ADDRESS is missing or malformed".to_string())
-}
-
-fn wrong_length(request: &[u8], name: &str, kind: u16, length: usize) -> Option<String> {
-    let value = stun::first(request, kind)?;
-    (value.len() != length).then(|| format!("{name} has {} bytes", value.len()))
-}
-
-/// What is wrong about the port that an Allocate asks for; other requests may have these attributes as they like.
-fn wrong_reservation(request: &[u8]) -> Option<String> {
-    if stun::kind(request) != stun::ALLOCATE {
-        return None;
-    }
-    let wrong = wrong_length(request, "EVEN-PORT", stun::EVEN_PORT, 1);
-    let wrong = wrong.or_else(|| wrong_length(request, "RESERVATION-TOKEN", stun::RESERVATION_TOKEN, 8));
-    let together = |name: &str, kind: u16| {
-        let both = stun::has(request, stun::RESERVATION_TOKEN) && stun::has(request, kind);
-        both.then(|| format!("RESERVATION-TOKEN together with {name}"))
-    };
-    let wrong = wrong.or_else(|| together("EVEN-PORT", stun::EVEN_PORT));
-    wrong.or_else(|| together("REQUESTED-ADDRESS-FAMILY", stun::REQUESTED_ADDRESS_FAMILY))
 }
 
 fn channel(own: &Allocation, request: &[u8]) -> Option<String> {
@@ -114,31 +95,18 @@ fn channel(own: &Allocation, request: &[u8]) -> Option<String> {
     Some(format!("{peer} has channel {other:#06x}"))
 }
 
-/// Why an Allocate gets no port. Without a reservation that waits there is always an even one whose next is free too.
-fn no_port(ledger: &Ledger, request: &[u8]) -> String {
-    let taken = ledger.allocations().count();
-    let full = format!("{taken} of {SLOTS} allocations are taken");
-    if taken == SLOTS {
-        full
-    } else if stun::has(request, stun::RESERVATION_TOKEN) {
-        format!("no port is reserved for its token: it was used, is over after {RESERVATION} s, or was never given")
-    } else if let Some((port, _)) = ledger.reserved().next().filter(|_| stun::reserves(request)) {
-        format!("port {port} is reserved, and only one reservation can wait")
-    } else {
-        full
+fn no_room(ledger: &Ledger, own: Option<&Allocation>, method: u16) -> String {
+    match (method, own) {
+        (stun::ALLOCATE, _) => format!("{} of {SLOTS} allocations are taken", ledger.allocations().count()),
+        (_, Some(own)) => format!("it has {} permissions and {} channels", own.permissions.len(), own.channels.len()),
+        _ => String::new(),
     }
-}
-
-fn no_room(own: Option<&Allocation>) -> String {
-    own.map_or_else(String::new, |own| {
-        format!("it has {} permissions and {} channels", own.permissions.len(), own.channels.len())
-    })
 }
 
 #[cfg(test)]
 mod tests {
     use super::*;
-    use crate::ledger::tests::{allocate, bind, client, reserve};
+    use crate::ledger::tests::{allocate, bind, client};
     use crate::stun::request;
 
     /// The reason for this code, of a client with an allocation and a channel.
@@ -190,56 +158,11 @@ mod tests {
             0x0113,
             &[
                 (stun::ERROR_CODE, &[0, 0, 4, 20]),
-                (stun::UNKNOWN_ATTRIBUTES, &[0, 0x1a, 0x7f, 0xff]),
+                (stun::UNKNOWN_ATTRIBUTES, &[0, 0x18, 0x7f, 0xff]),
             ],
         );
         let text = reason(&Ledger::new(), &Denied::default(), 3, client(1), &request(3, &[]), &reply);
-        assert_eq!(text, "0x001a DONT-FRAGMENT, 0x7fff");
-    }
-
-    #[test]
-    fn why_there_is_no_port() {
-        let mut ledger = Ledger::new();
-        let why = |ledger: &Ledger, kind: u16, value: &[u8]| {
-            let asked = request(stun::ALLOCATE, &[(kind, value)]);
-            reason(ledger, &Denied::default(), 3, client(9), &asked, &stun::error_response(&asked, 508))
-        };
-        let unknown = "no port is reserved for its token: it was used, is over after 30 s, or was never given";
-        assert_eq!(why(&ledger, stun::RESERVATION_TOKEN, &[1; 8]), unknown);
-        assert_eq!(why(&ledger, stun::EVEN_PORT, &[0x80]), "0 of 64 allocations are taken");
-        reserve(&mut ledger, 0, client(1), 49154);
-        let waits = "port 49155 is reserved, and only one reservation can wait";
-        assert_eq!(why(&ledger, stun::EVEN_PORT, &[0x80]), waits);
-        assert_eq!(why(&ledger, stun::RESERVATION_TOKEN, &[1; 8]), unknown);
-        assert_eq!(why(&ledger, stun::EVEN_PORT, &[0]), "1 of 64 allocations are taken");
-        for place in (0..64).filter(|place| *place != 1) {
-            allocate(&mut ledger, 0, client(100 + place), 49152 + 2 * place, 600);
-        }
-        for kind in [stun::EVEN_PORT, stun::RESERVATION_TOKEN] {
-            assert_eq!(why(&ledger, kind, &[0x80; 8]), "64 of 64 allocations are taken");
-        }
-    }
-
-    #[test]
-    fn a_port_that_cannot_be_asked_for_is_told() {
-        const UDP: (u16, &[u8]) = (stun::REQUESTED_TRANSPORT, &[17, 0, 0, 0]);
-        let (even, token, family) = (stun::EVEN_PORT, stun::RESERVATION_TOKEN, stun::REQUESTED_ADDRESS_FAMILY);
-        for (attributes, told) in [
-            (&[(even, &[][..])][..], "EVEN-PORT has 0 bytes"),
-            (&[(even, &[0x80; 4])], "EVEN-PORT has 4 bytes"),
-            (&[(token, &[0; 7])], "RESERVATION-TOKEN has 7 bytes"),
-            (&[(token, &[0; 8]), (even, &[0])], "RESERVATION-TOKEN together with EVEN-PORT"),
-            (
-                &[(family, &[1, 0, 0, 0]), (token, &[0; 8])],
-                "RESERVATION-TOKEN together with REQUESTED-ADDRESS-FAMILY",
-            ),
-        ] {
-            assert_eq!(why(400, stun::ALLOCATE, &[&[UDP], attributes].concat()), told);
-            assert_eq!(
-                why(400, stun::CREATE_PERMISSION, attributes),
-                "XOR-PEER-ADDRESS is missing or malformed"
-            );
-        }
+        assert_eq!(text, "0x0018 EVEN-PORT, 0x7fff");
     }
 
     #[test]

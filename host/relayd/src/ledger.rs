@@ -5,7 +5,7 @@
 //! was dropped, and to make a new program's table if the old one ends. A test holds it against the program's own listing.
 
 use crate::filter::Strangers;
-use crate::stun::{self, EVEN_PORT, RESERVATION_TOKEN, TransactionId};
+use crate::stun::{self, TransactionId};
 use std::collections::BTreeMap;
 use std::net::{Ipv4Addr, SocketAddr, SocketAddrV4};
 
@@ -18,8 +18,6 @@ pub const SLOTS: usize = 64;
 /// Document 01's times of life, in seconds.
 pub const PERMISSION: u64 = 300;
 pub const CHANNEL: u64 = 600;
-/// And of a reservation, in document 02.
-pub const RESERVATION: u64 = 30;
 /// How many permissions that have lapsed are remembered for an allocation: twice as many as it can have.
 const REMEMBERED: usize = 16;
 
@@ -59,47 +57,11 @@ pub struct Allocation {
     pub strangers: Strangers,
 }
 
-/// How an allocation came by its port.
-#[derive(Clone, Copy, Debug, PartialEq, Eq)]
-pub enum Choice {
-    /// It is any that was free.
-    Any,
-    /// It is even, as the client asked.
-    Even,
-    /// It is even, and the next one is reserved.
-    EvenOfTwo,
-    /// It was reserved.
-    Reserved,
-}
-
-impl Choice {
-    /// As an accepted Allocate and its reply tell it.
-    fn of(request: &[u8], reply: &[u8]) -> Self {
-        if stun::has(reply, RESERVATION_TOKEN) {
-            Choice::EvenOfTwo
-        } else if stun::has(request, EVEN_PORT) {
-            Choice::Even
-        } else if stun::has(request, RESERVATION_TOKEN) {
-            Choice::Reserved
-        } else {
-            Choice::Any
-        }
-    }
-}
-
-/// A port that waits for the client which brings its token.
-#[derive(Debug)]
-struct Reservation {
-    until: u64,
-    /// The client whose Allocate made it, until that client makes another allocation.
-    maker: Option<SocketAddr>,
-}
-
 /// What an accepted request has changed.
 #[derive(Debug, PartialEq, Eq)]
 pub enum Change {
     /// An allocation, for so many seconds.
-    Made(u64, Choice),
+    Made(u64),
     /// None: the client asked again, and was told how many seconds it has left.
     ToldAgain(u64),
     /// It now ends so many seconds from now.
@@ -117,45 +79,28 @@ pub enum Change {
     },
 }
 
-/// All of them, by relay port, and the ports that are reserved.
-pub struct Ledger {
-    slots: Vec<Option<Allocation>>,
-    reservations: BTreeMap<u16, Reservation>,
-}
+/// All of them, by relay port.
+pub struct Ledger(Vec<Option<Allocation>>);
 
 impl Ledger {
     /// Of a fresh relay.
     pub fn new() -> Self {
-        Ledger {
-            slots: (0..PORTS).map(|_| None).collect(),
-            reservations: BTreeMap::new(),
-        }
+        Ledger((0..PORTS).map(|_| None).collect())
     }
 
     /// Those that have not been ended, in the order of their ports.
     pub fn allocations(&self) -> impl Iterator<Item = &Allocation> {
-        self.slots.iter().flatten()
+        self.0.iter().flatten()
     }
 
     /// The allocation of a relay port.
     pub fn at(&self, relay_port: u16) -> Option<&Allocation> {
-        self.slots.get(place(relay_port))?.as_ref()
+        self.0.get(place(relay_port))?.as_ref()
     }
 
     /// The allocation of a relay port, to count what it carries.
     pub fn at_mut(&mut self, relay_port: u16) -> Option<&mut Allocation> {
-        self.slots.get_mut(place(relay_port))?.as_mut()
-    }
-
-    /// The ports that are reserved, and until when.
-    pub fn reserved(&self) -> impl Iterator<Item = (u16, u64)> {
-        self.reservations.iter().map(|(port, reservation)| (*port, reservation.until))
-    }
-
-    /// Until when the port after an allocation's own is reserved, if it is by the Allocate that made this one.
-    pub fn reserved_with(&self, allocation: &Allocation) -> Option<u64> {
-        let next = self.reservations.get(&(allocation.relay_port + 1))?;
-        (next.maker == Some(allocation.client)).then_some(next.until)
+        self.0.get_mut(place(relay_port))?.as_mut()
     }
 
     /// The allocation of a client.
@@ -177,7 +122,7 @@ impl Ledger {
         let allocation = self.at_mut(relay_port)?;
         let change = match stun::kind(request) {
             stun::REFRESH => match stun::lifetime(reply)? {
-                0 => Change::GivenBack(Box::new(self.slots[place(relay_port)].take()?)),
+                0 => Change::GivenBack(Box::new(self.0[place(relay_port)].take()?)),
                 seconds => {
                     allocation.expiry = now + seconds;
                     Change::Refreshed(seconds)
@@ -196,7 +141,7 @@ impl Ledger {
         if self.of(client).is_some() {
             return Some((relay_port, Change::ToldAgain(seconds)));
         }
-        *self.slots.get_mut(place(relay_port))? = Some(Allocation {
+        *self.0.get_mut(place(relay_port))? = Some(Allocation {
             user,
             client,
             transaction: stun::transaction_id(request),
@@ -209,45 +154,13 @@ impl Ledger {
             to_client: Flow::default(),
             strangers: Strangers::default(),
         });
-        let choice = Choice::of(request, reply);
-        self.reserve(now, client, relay_port, choice);
-        Some((relay_port, Change::Made(seconds, choice)))
-    }
-
-    /// An allocation at its reserved port ends the reservation, and a client's next allocation is no longer the one that made an earlier one.
-    fn reserve(&mut self, now: u64, client: SocketAddr, relay_port: u16, choice: Choice) {
-        self.reservations.remove(&relay_port);
-        for earlier in self.reservations.values_mut().filter(|earlier| earlier.maker == Some(client)) {
-            earlier.maker = None;
-        }
-        if choice == Choice::EvenOfTwo {
-            let (until, maker) = (now + RESERVATION, Some(client));
-            self.reservations.insert(relay_port + 1, Reservation { until, maker });
-        }
-    }
-
-    /// Takes out the reservations that are over at this time without having been used, and gives their ports.
-    pub fn lapse_reservations(&mut self, now: u64) -> Vec<u16> {
-        self.end_reservations(|reservation| reservation.until <= now)
-    }
-
-    /// Takes out the reservations whose allocation is gone, and gives their ports: a new program does not get them.
-    pub fn lose_reservations(&mut self) -> Vec<u16> {
-        let clients: Vec<SocketAddr> = self.allocations().map(|allocation| allocation.client).collect();
-        self.end_reservations(|reservation| reservation.maker.is_none_or(|maker| !clients.contains(&maker)))
-    }
-
-    fn end_reservations(&mut self, is_over: impl Fn(&Reservation) -> bool) -> Vec<u16> {
-        let over = self.reservations.iter().filter(|(_, reservation)| is_over(reservation));
-        let ports = over.map(|(port, _)| *port).collect();
-        self.reservations.retain(|_, reservation| !is_over(reservation));
-        ports
+        Some((relay_port, Change::Made(seconds)))
     }
 
     /// Takes out what is over at this time, and gives the allocations.
     pub fn lapse(&mut self, now: u64) -> Vec<Allocation> {
         let mut over = Vec::new();
-        for slot in &mut self.slots {
+        for slot in &mut self.0 {
             let Some(allocation) = slot else { continue };
             allocation.lapse(now);
             if allocation.expiry <= now {
@@ -324,26 +237,7 @@ pub mod tests {
         let relayed = ipv4_value(SocketAddrV4::new(Ipv4Addr::LOCALHOST, relay_port));
         let reply = request(0x0103, &[(XOR_RELAYED_ADDRESS, &relayed), (LIFETIME, &seconds.to_be_bytes())]);
         let change = ledger.record(now, 3, from, &request(stun::ALLOCATE, &[]), &reply);
-        assert_eq!(change, Some((relay_port, Change::Made(seconds.into(), Choice::Any))));
-    }
-
-    /// The same for 600 seconds, where the Allocate and its reply have one more attribute.
-    pub fn choose(ledger: &mut Ledger, now: u64, from: SocketAddr, relay_port: u16, asked: u16, told: u16) -> Choice {
-        let relayed = ipv4_value(SocketAddrV4::new(Ipv4Addr::LOCALHOST, relay_port));
-        let attributes: [(u16, &[u8]); 3] = [(XOR_RELAYED_ADDRESS, &relayed), (LIFETIME, &[0, 0, 2, 0x58]), (told, &[0; 8])];
-        let asked = request(stun::ALLOCATE, &[(asked, &[0x80])]);
-        let change = ledger.record(now, 3, from, &asked, &request(0x0103, &attributes));
-        let Some((port, Change::Made(600, choice))) = change else {
-            panic!("{change:?}")
-        };
-        assert_eq!(port, relay_port);
-        choice
-    }
-
-    /// Lets a client have an allocation at this even port, and reserves the next.
-    pub fn reserve(ledger: &mut Ledger, now: u64, from: SocketAddr, relay_port: u16) {
-        let choice = choose(ledger, now, from, relay_port, EVEN_PORT, RESERVATION_TOKEN);
-        assert_eq!(choice, Choice::EvenOfTwo);
+        assert_eq!(change, Some((relay_port, Change::Made(seconds.into()))));
     }
 
     /// Binds a channel.
@@ -462,44 +356,6 @@ pub mod tests {
             let second = (step >= 4).then_some(300 + u64::from(step));
             assert_eq!(lapsed(&ledger, 40 - step), (second, step >= 4), "{step}");
         }
-    }
-
-    #[test]
-    fn a_reservation_lasts_until_it_is_used_or_over() {
-        let mut ledger = Ledger::new();
-        let reserved = |ledger: &Ledger| ledger.reserved().collect::<Vec<_>>();
-        assert_eq!(choose(&mut ledger, 10, client(1), 49160, EVEN_PORT, 0), Choice::Even);
-        assert_eq!(reserved(&ledger), []);
-        reserve(&mut ledger, 10, client(2), 49154);
-        assert_eq!(reserved(&ledger), [(49155, 40)]);
-        allocate(&mut ledger, 11, client(3), 49157, 600);
-        assert_eq!(choose(&mut ledger, 12, client(4), 49155, RESERVATION_TOKEN, 0), Choice::Reserved);
-        assert_eq!(reserved(&ledger), []);
-        reserve(&mut ledger, 12, client(5), 49278);
-        assert_eq!(ledger.lapse_reservations(41), [0; 0]);
-        assert_eq!(reserved(&ledger), [(49279, 42)]);
-        assert_eq!(ledger.lapse_reservations(42), [49279]);
-        assert_eq!(reserved(&ledger), []);
-    }
-
-    #[test]
-    fn a_reservation_knows_the_allocation_that_made_it() {
-        let mut ledger = Ledger::new();
-        let with = |ledger: &Ledger, port| ledger.at(port).map(|own| ledger.reserved_with(own));
-        reserve(&mut ledger, 10, client(1), 49154);
-        reserve(&mut ledger, 11, client(2), 49160);
-        assert_eq!((with(&ledger, 49154), with(&ledger, 49160)), (Some(Some(40)), Some(Some(41))));
-        assert_eq!(ledger.lose_reservations(), [0; 0]);
-        // It outlives that allocation, but is not the client's next one's, at whatever port.
-        let give_back = request(0x0104, &[(LIFETIME, &[0; 4])]);
-        ledger.record(12, 3, client(1), &request(stun::REFRESH, &[]), &give_back);
-        assert_eq!(ledger.reserved().count(), 2);
-        allocate(&mut ledger, 13, client(1), 49154, 600);
-        assert_eq!((with(&ledger, 49154), with(&ledger, 49160)), (Some(None), Some(Some(41))));
-        ledger.record(14, 3, client(2), &request(stun::REFRESH, &[]), &give_back);
-        reserve(&mut ledger, 14, client(3), 49170);
-        assert_eq!(ledger.lose_reservations(), [49155, 49161]);
-        assert_eq!(ledger.reserved().collect::<Vec<_>>(), [(49171, 44)]);
     }
 
     #[test]

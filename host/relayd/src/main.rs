@@ -33,7 +33,6 @@ mod sockets;
 mod status;
 mod stun;
 mod sys;
-mod tokens;
 mod users;
 
 use admission::Gate;

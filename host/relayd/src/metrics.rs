@@ -27,7 +27,6 @@ pub fn text(desk: &Desk, restarted: u64) -> String {
         let labels = format!("{{method=\"{}\",code=\"{code}\"}}", stun::method_name(*method));
         line(put, "requests_refused_total", &labels, *count);
     }
-    reservations(put, desk);
     credentials(put, desk);
     drops(put, desk);
     head(
@@ -68,15 +67,6 @@ fn flows(text: &mut String, name: &str, rows: &[(String, Flow)]) {
         for (labels, flow) in rows {
             line(text, &name, labels, part(flow));
         }
-    }
-}
-
-/// The port after an even one.
-fn reservations(text: &mut String, desk: &Desk) {
-    let help = "Ports reserved beside an even one, and what became of them.";
-    head(text, "reservations_total", "counter", help);
-    for (what, count) in desk.counters.reservations.each() {
-        line(text, "reservations_total", &format!("{{event=\"{what}\"}}"), count);
     }
 }
 

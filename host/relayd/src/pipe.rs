@@ -8,7 +8,6 @@ use crate::relay::{Outcome, Reason, Stop};
 use crate::relayed;
 use crate::stun::{self, REQUESTED_TRANSPORT, XOR_PEER_ADDRESS, ipv4_value};
 use crate::sys::signals::Watch;
-use crate::tokens::{self, Token, Tokens};
 use std::io::BufRead;
 use std::net::{Ipv4Addr, SocketAddr, SocketAddrV4};
 use std::ops::Range;
@@ -29,7 +28,6 @@ pub struct Pipe {
     relay: Ipv4Addr,
     watch: Watch,
     batch: Batch,
-    tokens: Tokens,
     /// When the program was started again, the last few times.
     restarts: Vec<Instant>,
     /// How often it was started again.
@@ -42,10 +40,6 @@ struct Batch {
     lines: Vec<u8>,
     /// Where each line ends.
     ends: Vec<usize>,
-    /// What each call brings for a token.
-    tokens: Vec<Token>,
-    /// One of them may reserve a port.
-    reserves: bool,
     /// The answers that came, with their bytes' places; None for a line that was given up.
     answers: Vec<Option<(Answer, Range<usize>)>>,
     bytes: Vec<u8>,
@@ -59,8 +53,6 @@ impl Batch {
     fn clear(&mut self) {
         self.lines.clear();
         self.ends.clear();
-        self.tokens.clear();
-        self.reserves = false;
         self.answers.clear();
         self.bytes.clear();
         self.one_by_one = false;
@@ -113,7 +105,6 @@ impl Pipe {
             relay,
             watch,
             batch: Batch::default(),
-            tokens: Tokens::default(),
             restarts: Vec::new(),
             restarted: 0,
         })
@@ -134,26 +125,16 @@ impl Pipe {
         self.batch.clear();
     }
 
-    /// Whether the batch has to be asked about before this datagram is put: which reservation a token is of, the answers have to say first.
-    pub fn is_full_for(&self, datagram: &[u8]) -> bool {
-        self.batch.reserves && tokens::brings(datagram)
-    }
-
-    /// Puts a client's datagram into the batch. `start` is the number at which the search for a free port begins, `token` the one under which
-    /// the next port is reserved, if it is to be.
-    pub fn client(&mut self, now: u64, user: u32, start: u32, token: Token, from: SocketAddr, datagram: &[u8]) {
-        self.batch.reserves |= stun::kind(datagram) == stun::ALLOCATE && stun::reserves(datagram);
-        let datagram = self.tokens.brought(datagram);
-        line::client(&mut self.batch.lines, now, user, start, from, &datagram);
+    /// Puts a client's datagram into the batch. `start` is the number at which the search for a free port begins.
+    pub fn client(&mut self, now: u64, user: u32, start: u32, from: SocketAddr, datagram: &[u8]) {
+        line::client(&mut self.batch.lines, now, user, start, from, datagram);
         self.batch.ends.push(self.batch.lines.len());
-        self.batch.tokens.push(token);
     }
 
     /// Puts a peer's datagram to one of the relay ports into the batch.
     pub fn peer(&mut self, now: u64, from: SocketAddrV4, relay_port: u16, datagram: &[u8]) {
         line::peer(&mut self.batch.lines, now, from.into(), relay_port, datagram);
         self.batch.ends.push(self.batch.lines.len());
-        self.batch.tokens.push(Token::default());
     }
 
     /// How many of the batch have their outcome.
@@ -178,13 +159,11 @@ impl Pipe {
         Ok(())
     }
 
-    /// Writes the relayed address and the token into the replies from this place on.
+    /// Writes the relayed address into the replies from this place on.
     fn translate(&mut self, first: usize) {
-        for (answer, token) in self.batch.answers.iter().zip(&self.batch.tokens).skip(first) {
-            if let Some((Answer::ToClient(to), range)) = answer {
-                let reply = &mut self.batch.bytes[range.clone()];
-                relayed::translate(reply, self.relay);
-                self.tokens.give(*to, reply, *token);
+        for (answer, range) in self.batch.answers[first..].iter().flatten() {
+            if matches!(answer, Answer::ToClient(_)) {
+                relayed::translate(&mut self.batch.bytes[range.clone()], self.relay);
             }
         }
     }
@@ -340,7 +319,7 @@ mod tests {
     fn ask(pipe: &mut Pipe, count: u8) -> Result<(), Trouble> {
         pipe.clear();
         for place in 0..count {
-            pipe.client(1, 2, 3, [4; 8], from(), &[place]);
+            pipe.client(1, 2, 3, from(), &[place]);
         }
         pipe.ask()
     }
@@ -356,38 +335,6 @@ mod tests {
             assert_eq!(pipe.outcome(place), Outcome::ToPeer { relay_port, to, bytes });
         }
         assert_eq!(pipe.outcome(64), Outcome::Lost);
-    }
-
-    #[test]
-    fn a_token_is_the_one_that_the_call_brings() {
-        let reply = r"S\tc6336407\t40000\t0103000c2112a442000000000000000000000000002200080000000000000000";
-        let mut pipe = start(&Script::new("tokens", &always(reply))).expect("it starts");
-        ask(&mut pipe, 1).expect("an answer");
-        let Outcome::ToClient { bytes, .. } = pipe.outcome(0) else {
-            panic!("no reply")
-        };
-        assert_eq!(stun::first(bytes, stun::RESERVATION_TOKEN), Some(&[4; 8][..]));
-        // And is the relay's own again when it is brought back, as no other is.
-        for (brought, put) in [(4, "0000000000000000\n"), (0, "ffffffffffffffff\n")] {
-            let request = stun::request(stun::ALLOCATE, &[(stun::RESERVATION_TOKEN, &[brought; 8])]);
-            pipe.clear();
-            pipe.client(1, 2, 3, [5; 8], from(), &request);
-            assert!(pipe.batch.lines.ends_with(put.as_bytes()), "{brought}");
-        }
-    }
-
-    #[test]
-    fn a_token_is_not_put_behind_what_may_hand_out_another() {
-        let mut pipe = start(&Script::new("mixed", FIRST)).expect("it starts");
-        let allocate = |kind: u16, value: &[u8]| stun::request(stun::ALLOCATE, &[(kind, value)]);
-        let (even, pair) = (allocate(stun::EVEN_PORT, &[0]), allocate(stun::EVEN_PORT, &[0x80]));
-        let brings = allocate(stun::RESERVATION_TOKEN, &[7; 8]);
-        for (before, full) in [(&even, false), (&brings, false), (&pair, true), (&even, true)] {
-            pipe.client(1, 2, 3, [5; 8], from(), before);
-            assert_eq!((pipe.is_full_for(&brings), pipe.is_full_for(&pair)), (full, false));
-        }
-        pipe.clear();
-        assert!(!pipe.is_full_for(&brings));
     }
 
     #[test]

@@ -1,4 +1,4 @@
-//! Port starts and tokens from the system's random source, so that relay ports and reservations can't be guessed.
+//! Port starts from the system's random source, so that relay ports can't be guessed.
 
 use std::fs::File;
 use std::io::{self, BufReader, Read};
@@ -14,19 +14,16 @@ impl Random {
 
     /// The next number.
     pub fn next(&mut self) -> io::Result<u32> {
-        self.bytes().map(u32::from_ne_bytes)
-    }
-
-    /// The next few bytes.
-    pub fn bytes<const LENGTH: usize>(&mut self) -> io::Result<[u8; LENGTH]> {
-        let mut bytes = [0; LENGTH];
+        let mut bytes = [0; 4];
         self.0.read_exact(&mut bytes)?;
-        Ok(bytes)
+        Ok(u32::from_ne_bytes(bytes))
     }
 
     /// A key for as long as relayd runs.
     pub fn key(&mut self) -> Result<[u8; 32], String> {
-        self.bytes().map_err(|error| format!("no random key: {error}"))
+        let mut bytes = [0; 32];
+        self.0.read_exact(&mut bytes).map_err(|error| format!("no random key: {error}"))?;
+        Ok(bytes)
     }
 }
 

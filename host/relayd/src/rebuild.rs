@@ -3,13 +3,10 @@
 //! Each permission and channel is made when it was last made, each allocation before all of them, and then refreshed so that it ends when
 //! it ends. All of it was live together at those times, so none is refused for want of room. Every expiry, port, user and transaction id is
 //! kept, so that an Allocate that is sent again gets its answer from the new table too.
-//!
-//! An allocation with which the next port is reserved is made when it was made, and reserves it again. A reservation whose allocation is gone
-//! is lost.
 
-use crate::ledger::{Allocation, CHANNEL, FIRST_PORT, Ledger, PERMISSION, RESERVATION};
+use crate::ledger::{Allocation, CHANNEL, FIRST_PORT, Ledger, PERMISSION};
 use crate::line;
-use crate::stun::{self, CHANNEL_NUMBER, EVEN_PORT, LIFETIME, REQUESTED_TRANSPORT, XOR_PEER_ADDRESS, ipv4_value};
+use crate::stun::{self, CHANNEL_NUMBER, LIFETIME, REQUESTED_TRANSPORT, XOR_PEER_ADDRESS, ipv4_value};
 use std::net::SocketAddrV4;
 
 /// Document 01's shortest and longest time of life of an allocation.
@@ -19,14 +16,13 @@ const LONGEST: u64 = 3600;
 /// The lines of these requests, in the order of their times, and how many there are.
 pub fn lines(ledger: &Ledger, now: u64) -> (Vec<u8>, usize) {
     let live = ledger.allocations().filter(|allocation| now < allocation.expiry);
-    let requests = live.flat_map(|allocation| requests(allocation, ledger.reserved_with(allocation), now));
-    let mut requests: Vec<(u64, Vec<u8>)> = requests.collect();
+    let mut requests: Vec<(u64, Vec<u8>)> = live.flat_map(|allocation| requests(allocation, now)).collect();
     requests.sort_by_key(|(time, _)| *time);
     let count = requests.len();
     (requests.into_iter().flat_map(|(_, line)| line).collect(), count)
 }
 
-fn requests(allocation: &Allocation, reserved: Option<u64>, now: u64) -> Vec<(u64, Vec<u8>)> {
+fn requests(allocation: &Allocation, now: u64) -> Vec<(u64, Vec<u8>)> {
     let mut made = Vec::new();
     let mut add = |time: u64, method, attributes: &[(u16, &[u8])]| {
         let start = u32::from(allocation.relay_port.wrapping_sub(FIRST_PORT));
@@ -35,13 +31,9 @@ fn requests(allocation: &Allocation, reserved: Option<u64>, now: u64) -> Vec<(u6
         line::client(&mut line, time, allocation.user, start, allocation.client, &request);
         made.push((time, line));
     };
-    let begin = reserved.map_or(now.saturating_sub(CHANNEL), |until| until - RESERVATION);
-    let udp: (u16, &[u8]) = (REQUESTED_TRANSPORT, &[17, 0, 0, 0]);
+    let begin = now.saturating_sub(CHANNEL);
     let longest = (LIFETIME, &seconds(LONGEST)[..]);
-    match reserved {
-        Some(_) => add(begin, stun::ALLOCATE, &[udp, longest, (EVEN_PORT, &[0x80])]),
-        None => add(begin, stun::ALLOCATE, &[udp, longest]),
-    }
+    add(begin, stun::ALLOCATE, &[(REQUESTED_TRANSPORT, &[17, 0, 0, 0]), longest]);
     let refreshed = allocation.expiry.saturating_sub(SHORTEST).min(now);
     add(refreshed, stun::REFRESH, &[(LIFETIME, &seconds(allocation.expiry - refreshed))]);
     for (host, expiry) in allocation.permissions.iter().filter(|(_, expiry)| now < **expiry) {
@@ -67,7 +59,7 @@ fn seconds(number: u64) -> [u8; 4] {
 #[cfg(test)]
 mod tests {
     use super::*;
-    use crate::ledger::tests::{allocate, bind, client, reserve};
+    use crate::ledger::tests::{allocate, bind, client};
 
     fn text(ledger: &Ledger, now: u64) -> Vec<String> {
         let (text, count) = lines(ledger, now);
@@ -89,20 +81,6 @@ mod tests {
         assert_eq!(text(&ledger, 10)[1], format!("Q\t10\t{refresh}00000636"));
         assert!(text(&ledger, 10)[0].starts_with("Q\t0\t3"));
         assert_eq!(text(&ledger, 1600), [""; 0]);
-    }
-
-    #[test]
-    fn a_reservation_is_made_again_with_its_allocation() {
-        let mut ledger = Ledger::new();
-        reserve(&mut ledger, 1000, client(40000), 49158);
-        let head = "2112a442000000000000000000000000";
-        let lines = text(&ledger, 1029);
-        let allocate = format!("00030018{head}0019000411000000000d000400000e100018000180000000");
-        assert_eq!(lines[0], format!("Q\t1000\t3\t6\tc6336407\t40000\t{allocate}"));
-        assert!(lines[1].starts_with("Q\t1000\t3\t6\tc6336407\t40000\t0004"));
-        // When it is over, the allocation is made as any other.
-        ledger.lapse_reservations(1030);
-        assert!(text(&ledger, 1030)[0].starts_with("Q\t430\t3\t6") && text(&ledger, 1030)[0].ends_with("00000e10"));
     }
 
     #[test]

@@ -152,34 +152,28 @@ impl Server {
         }
         let now = self.parts.desk.clock.now();
         self.lapse(now);
-        let (mut put, mut asked) = (0, Ok(()));
-        while asked.is_ok() && put < self.inbox.received().len() {
-            put = self.put(now, put)?;
-            asked = self.ask(now);
-        }
+        self.put(now)?;
+        let asked = self.ask(now);
         self.parts.desk.send();
         self.inbox.clear();
         asked
     }
 
-    /// Puts the inbox from this place on into the relay's next batch, as far as it goes to the relay, and gives where the next one begins.
-    fn put(&mut self, now: u64, first: usize) -> Result<usize, Stop> {
+    /// Puts the inbox into the relay's next batch, as far as it goes to the relay.
+    fn put(&mut self, now: u64) -> Result<(), Stop> {
         self.parts.relay.clear();
         self.asked.clear();
         let unix = self.parts.desk.clock.unix();
         let moment = Moment { now, unix };
-        for (place, received) in self.inbox.received().iter().enumerate().skip(first) {
+        for (place, received) in self.inbox.received().iter().enumerate() {
             let datagram = self.inbox.bytes(received);
-            if self.parts.relay.is_full_for(datagram) {
-                return Ok(place);
-            }
             let sender = match self.parts.desk.sockets.door(received.door) {
                 Door::Server => self.parts.put_client(moment, received, datagram)?,
                 Door::Port(relay_port) => self.parts.put_peer(now, received, relay_port, datagram),
             };
             self.asked.extend(sender.map(|sender| (place, sender)));
         }
-        Ok(self.inbox.received().len())
+        Ok(())
     }
 
     /// Asks the relay about the batch and does what it says. If the program fails, the rest is asked of a new one.
@@ -222,7 +216,6 @@ impl Server {
         relay.restart(why, &table, count, |what| desk.log.alert(&desk.clock, what))?;
         let allocations = desk.ledger.allocations().count();
         desk.alert(&format!("it runs again, with {allocations} allocations"));
-        desk.lose_reservations();
         self.waiting.add_end(relay.stream(), PROGRAM).map_err(|error| cannot_wait(&error))
     }
 
@@ -282,9 +275,11 @@ impl Parts {
         };
         match self.desk.gate.admit(moment, from, datagram, received.length) {
             Admission::Pass(sender) => {
-                let failed = |error| Stop::Failed(format!("no random number: {error}"));
-                let (start, token) = (self.random.next().map_err(failed)?, self.random.bytes().map_err(failed)?);
-                self.relay.client(now, sender.user, start, token, from, datagram);
+                let start = self
+                    .random
+                    .next()
+                    .map_err(|error| Stop::Failed(format!("no random number: {error}")))?;
+                self.relay.client(now, sender.user, start, from, datagram);
                 return Ok(Some(sender));
             }
             Admission::TurnAway(cause, response) => self.desk.turn_away(&call, from, &cause, &response),

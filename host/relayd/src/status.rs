@@ -15,9 +15,6 @@ pub fn text(desk: &Desk, restarted: u64, about: &str) -> String {
     let mut text = format!("{about}\n{}, up {}\n", desk.clock.stamp(), days(now));
     let _ = writeln!(text, "{} of {SLOTS} allocations", desk.ledger.allocations().count());
     let _ = writeln!(text, "{}", desk.denied.told());
-    for (relay_port, until) in desk.ledger.reserved() {
-        let _ = writeln!(text, "relay port {relay_port} is reserved, {}", left(until, now));
-    }
     for allocation in desk.ledger.allocations() {
         put_allocation(&mut text, desk, allocation, now);
     }
@@ -66,8 +63,6 @@ fn put_counts(text: &mut String, desk: &Desk, restarted: u64) {
         "  requests: {} accepted, {refused} refused, {denied} of them for a denied peer",
         counters.accepted
     );
-    let reservations = counters.reservations.each().map(|(what, count)| format!("{count} {what}"));
-    let _ = writeln!(text, "  reservations: {}", reservations.join(", "));
     let counts = desk.gate.front.as_ref().map(Front::counts).unwrap_or_default();
     if !counts.is_empty() {
         let counts: Vec<String> = counts.iter().map(|(what, times)| format!("{times} {what}")).collect();

@@ -18,9 +18,7 @@ pub const LIFETIME: u16 = 0x000d;
 pub const XOR_PEER_ADDRESS: u16 = 0x0012;
 pub const XOR_RELAYED_ADDRESS: u16 = 0x0016;
 pub const REQUESTED_ADDRESS_FAMILY: u16 = 0x0017;
-pub const EVEN_PORT: u16 = 0x0018;
 pub const REQUESTED_TRANSPORT: u16 = 0x0019;
-pub const RESERVATION_TOKEN: u16 = 0x0022;
 pub const MESSAGE_INTEGRITY: u16 = 0x0008;
 pub const MESSAGE_INTEGRITY_SHA256: u16 = 0x001c;
 
@@ -85,26 +83,16 @@ pub fn all_attributes(message: &[u8]) -> impl Iterator<Item = Attribute<'_>> {
     })
 }
 
-/// The attributes up to MESSAGE-INTEGRITY: what the relay reads of a message that it has taken.
-pub fn attributes(message: &[u8]) -> impl Iterator<Item = Attribute<'_>> {
-    all_attributes(message).take_while(|attribute| !matches!(attribute.kind, MESSAGE_INTEGRITY | MESSAGE_INTEGRITY_SHA256))
+/// The attributes up to MESSAGE-INTEGRITY, each with its type: what the relay reads of a message that it has taken.
+pub fn attributes(message: &[u8]) -> impl Iterator<Item = (u16, &[u8])> {
+    all_attributes(message)
+        .take_while(|attribute| !matches!(attribute.kind, MESSAGE_INTEGRITY | MESSAGE_INTEGRITY_SHA256))
+        .map(|attribute| (attribute.kind, attribute.value))
 }
 
 /// The value of the first attribute of a type.
 pub fn first(message: &[u8], wanted: u16) -> Option<&[u8]> {
-    attributes(message)
-        .find(|attribute| attribute.kind == wanted)
-        .map(|attribute| attribute.value)
-}
-
-/// Whether a message has an attribute of a type.
-pub fn has(message: &[u8], wanted: u16) -> bool {
-    first(message, wanted).is_some()
-}
-
-/// Whether an Allocate asks that the port after its even one be reserved: EVEN-PORT's top bit.
-pub fn reserves(request: &[u8]) -> bool {
-    first(request, EVEN_PORT).is_some_and(|value| value.first().is_some_and(|bits| bits & 0x80 != 0))
+    attributes(message).find(|(kind, _)| *kind == wanted).map(|(_, value)| value)
 }
 
 /// LIFETIME's seconds.
@@ -121,8 +109,8 @@ pub fn channel_number(message: &[u8]) -> Option<u16> {
 /// The peers of a request: every XOR-PEER-ADDRESS that is IPv4.
 pub fn peers(message: &[u8]) -> impl Iterator<Item = SocketAddrV4> {
     attributes(message)
-        .filter(|attribute| attribute.kind == XOR_PEER_ADDRESS)
-        .filter_map(|attribute| ipv4(attribute.value))
+        .filter(|(kind, _)| *kind == XOR_PEER_ADDRESS)
+        .filter_map(|(_, value)| ipv4(value))
 }
 
 /// XOR-RELAYED-ADDRESS.
@@ -285,20 +273,6 @@ mod tests {
         made.truncate(30);
         assert_eq!(attributes(&made).count(), 0);
         assert_eq!(attributes(b"").count(), 0);
-    }
-
-    #[test]
-    fn only_the_top_bit_reserves() {
-        for (value, expected) in [
-            (&[0x80u8][..], true),
-            (&[0xff], true),
-            (&[0x7f], false),
-            (&[0], false),
-            (&[], false),
-        ] {
-            assert_eq!(reserves(&request(ALLOCATE, &[(EVEN_PORT, value)])), expected, "{value:?}");
-        }
-        assert!(!reserves(&request(ALLOCATE, &[])) && has(&request(ALLOCATE, &[(EVEN_PORT, &[])]), EVEN_PORT));
     }
 
     #[test]

@@ -28,5 +28,5 @@ pub allocate_spec : {M : Type 1} → statement M
 allocate_spec =
     tie.close
     (tie.spec (λ c. search rules) (λ c. search rules) (λ c. search rules) (λ c. search rules) returns (λ c. search rules)
-    (λ c. search rules) (λ c. search rules) (λ c. search rules) (λ c. search rules) returns_2 (λ c. search rules) allocated-requires
-    (λ c. search rules) (λ c. search rules) returns_3)
+    (λ c. search rules) (λ c. search rules) (λ c. search rules) (λ c. search rules) returns_2 (λ c. search rules)
+    allocated-requires (λ c. search rules) (λ c. search rules) returns_3)

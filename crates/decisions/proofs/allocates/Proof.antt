@@ -26,5 +26,18 @@ returns-7 c = rw c.enum-told7.given.1
 pub allocates_spec : {M : Type 1} → statement M
 allocates_spec =
     tie.close
-    (tie.spec (λ c. search rules) (λ c. search rules) (λ c. search rules) (λ c. search rules) (λ c. search rules) (λ c. search rules)
-    (λ c. search rules) returns returns_2 returns_3 returns_4 returns-5 returns-6 returns-7)
+    (tie.spec
+    (λ c. search rules)
+    (λ c. search rules)
+    (λ c. search rules)
+    (λ c. search rules)
+    (λ c. search rules)
+    (λ c. search rules)
+    (λ c. search rules)
+    returns
+    returns_2
+    returns_3
+    returns_4
+    returns-5
+    returns-6
+    returns-7)

@@ -14,9 +14,16 @@ returns c = rw (c.before.before.before.before.before.call.given.1, ← client_as
 returns_2 : tie.Need-returns-2
 returns_2 c =
     let told = c.before.enum_told.given.1 in
-    rw (told, c.answer-dropped.ensures) (peer_dropped _ _ (c.before.before.before.before.before.before.requires.1.0 (peer_data _ told c.before.before.before.before.before.before.requires.0.1)) _ _ _)
+    rw (told, c.answer-dropped.ensures) (peer_dropped _ _ (c.before.before.before.before.before.before.requires.1 (peer_data _ told c.before.before.before.before.before.before.requires.0.1)) _ _ _)
 
 pub answer_call_spec : {M : Type 1} → statement M
 answer_call_spec =
     tie.close
-    (tie.spec (λ c. search rules) answer-client-requires (λ c. search rules) (λ c. search rules) (λ c. search rules) returns returns_2)
+    (tie.spec
+    (λ c. search rules)
+    answer-client-requires
+    (λ c. search rules)
+    (λ c. search rules)
+    (λ c. search rules)
+    returns
+    returns_2)

@@ -9,4 +9,6 @@ returns_2 : tie.Need-returns-2
 returns_2 c = rw c.enum-told2.given.1
 
 pub asking_of_spec : {M : Type 1} → statement M
-asking_of_spec = tie.close (tie.spec (λ c. search rules) (λ c. search rules) (λ c. search rules) (λ c. search rules) returns returns_2)
+asking_of_spec =
+    tie.close
+    (tie.spec (λ c. search rules) (λ c. search rules) (λ c. search rules) (λ c. search rules) returns returns_2)

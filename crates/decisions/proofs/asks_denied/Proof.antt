@@ -20,6 +20,6 @@ returns_4 c = rw c.before.enum-told4.given.1 c.first-denied.ensures
 pub asks_denied_spec : {M : Type 1} → statement M
 asks_denied_spec =
     tie.close
-    (tie.spec (λ c. search rules) (λ c. search rules) (λ c. search rules) any-denied-requires (λ c. search rules) first-denied-requires
-    (λ c. search rules) (λ c. search rules) (λ c. search rules) (λ c. search rules) (λ c. search rules) returns_3 returns_4
-    (λ c. search rules) (λ c. search rules) (λ c. search rules))
+    (tie.spec (λ c. search rules) (λ c. search rules) (λ c. search rules) any-denied-requires (λ c. search rules) first-denied-requires (λ c. search rules)
+    (λ c. search rules) (λ c. search rules) (λ c. search rules) (λ c. search rules) returns_3 returns_4 (λ c. search rules) (λ c. search rules)
+    (λ c. search rules))

@@ -25,17 +25,35 @@ returns_4 : tie.Need-returns-4
 returns_4 c = not_data c.enum-told4.given.1 refl
 
 returns-5 : tie.Need-returns-5
-returns-5 c y denied reply holds = rw (c.before.before.before.enum-told5.given.1, ← c.before.before.client-call.ensures) (own_answers c.before.before.before.before.before.before.args.call c.before.has.ensures (λ own slot. keep (send c.before.before.client-call.result c.before.before.before.before.before.before.args.datagram.now own slot)) (gives_kept _ (quiet_gives reply c.send.ensures (send_quiet _ _ _ _ _))))
+returns-5 c y denied reply = rw (c.before.before.before.enum-told5.given.1, ← c.before.before.client-call.ensures) (own_answers c.before.before.before.before.before.before.args.call Asked.Send c.before.has.ensures (λ own slot. keep (send c.before.before.client-call.result c.before.before.before.before.before.before.args.datagram.now own slot)) (gives_kept _ (quiet_gives reply c.send.ensures (send_quiet _ _ _ _ _))))
 
 returns-6 : tie.Need-returns-6
-returns-6 c y denied reply holds = rw (c.before.before.before.enum-told6.given.1, ← c.before.before.client-call2.ensures) (own_answers c.before.before.before.before.before.before.args.call c.before.has2.ensures (λ own slot. keep (send_channel_data c.before.before.client-call2.result c.before.before.before.before.before.before.args.datagram.now own slot)) (gives_kept _ (quiet_gives reply c.send-channel-data.ensures (channelled_quiet _ _ _ _ _))))
+returns-6 c y denied reply = rw (c.before.before.before.enum-told6.given.1, ← c.before.before.client-call2.ensures) (own_answers c.before.before.before.before.before.before.args.call Asked.ChannelData c.before.has2.ensures (λ own slot. keep (send_channel_data c.before.before.client-call2.result c.before.before.before.before.before.before.args.datagram.now own slot)) (gives_kept _ (quiet_gives reply c.send-channel-data.ensures (channelled_quiet _ _ _ _ _))))
 
 returns-7 : tie.Need-returns-7
-returns-7 c y denied reply = rw c.enum-told7.given.1 (λ holds slots l e. gives_kept _ (quiet_gives _ refl refl))
+returns-7 c y denied reply = rw c.enum-told7.given.1 (λ slots l e. gives_kept _ (quiet_gives _ refl refl))
 
 pub pass_client_spec : {M : Type 1} → statement M
 pass_client_spec =
     tie.close
-    (tie.spec (λ c. search rules) (λ c. search rules) (λ c. search rules) (λ c. search rules) (λ c. search rules) (λ c κs. search rules)
-    (λ c κs. search rules) send-requires (λ c. search rules) (λ c κs. search rules) (λ c κs. search rules) (λ c κs. search rules)
-    (λ c. search rules) returns returns_2 returns_3 returns_4 returns-5 returns-6 returns-7)
+    (tie.spec
+    (λ c. search rules)
+    (λ c. search rules)
+    (λ c. search rules)
+    (λ c. search rules)
+    (λ c. search rules)
+    (λ c κs. search rules)
+    (λ c κs. search rules)
+    send-requires
+    (λ c. search rules)
+    (λ c κs. search rules)
+    (λ c κs. search rules)
+    (λ c κs. search rules)
+    (λ c. search rules)
+    returns
+    returns_2
+    returns_3
+    returns_4
+    returns-5
+    returns-6
+    returns-7)

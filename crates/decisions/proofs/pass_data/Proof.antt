@@ -21,4 +21,11 @@ returns_2 c = rw c.before.before.before.before.before.call2.given.1 c.before.bef
 pub pass_data_spec : {M : Type 1} → statement M
 pass_data_spec =
     tie.close
-    (tie.spec (λ c. search rules) pass-client-requires (λ c. search rules) pass-peer-requires returns (λ c. search rules) returns_2)
+    (tie.spec
+    (λ c. search rules)
+    pass-client-requires
+    (λ c. search rules)
+    pass-peer-requires
+    returns
+    (λ c. search rules)
+    returns_2)

@@ -7,7 +7,7 @@ use Rattle.decisions.proofs.pass_peer.Tie as tie
 
 returns : tie.Need-returns
 unfolding decided
-returns c holds = peer_answers c.before.before.before.before.before.before.before.args.call c.before.before.before.has.ensures (relay_from_peer _ _ _ _) c.before.before.relay-from-peer.ensures
+returns c = peer_answers c.before.before.before.before.before.before.before.args.call c.before.before.before.has.ensures (relay_from_peer _ _ _ _) c.before.before.relay-from-peer.ensures
 
 pub pass_peer_spec : {M : Type 1} → statement M
 pass_peer_spec = tie.close (tie.spec (λ c κs. search rules) (λ c κs. search rules) (λ c. search rules) returns)

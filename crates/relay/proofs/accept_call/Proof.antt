@@ -2,10 +2,12 @@
 use types.Logic.{Logic}
 use denote.Slice.{shr_slice_vals, mut_slice_vals}
 use denote.Ref.{mut_vals}
-use Rattle.walk.proofs.Pre.{ℕ, ◌-◌, ftrue, flft, SProp, ent, id⊢, Lfts, Shares, Fun, tables, u8, yes, Is, owns, MutRef, ptr-vals, mut_Tells, plain, slice_val, MutSlice, Room, slice-vals, mut_slice_Tells, ShrSlice, shr_slice_Tells, owned, nothing, on_entry, Args, Vals, Triple, cited, says, needs, Stays, stay_slice, stay_none, walk_of, Goes-slice, Goes-none, ends_at, walked, stay_none_slice, Goes-none_slice, stay_ref, Goes-ref, full_share, Ura, length, [], ◌∷◌, List, refl, sym, ◌≡◌, ◌∙◌, ap, subst, named, Val, vptr, Memory, Routine, Calls, Loops, WpFn, FmC, feq_l, ‵, ◌⊛◌, ⋆, ◌$◌, ◌∵◌, !, qed, by, move, drop, split, join, fsplit, fjoin, suffices, frame, done, keep, Item, whole, sub, look_in, agg, look, init, stop, hop, fld, from, load, assigns, returns, enter, alloc1, alloc0, params1, pass1, pass0, free0, and_then, no_more, land, addr}
-use Rattle.walk.proofs.Walk.{ref, shown, Of, tokens, calls_any, out, framed_calls, finish}
+use Rattle.walk.proofs.Pre.{ℕ, ◌-◌, ftrue, flft, SProp, ent, id⊢, Lfts, Shares, Fun, tables, u8, yes, Is, owns, MutRef, ptr-vals, mut_Tells, plain, slice_val, MutSlice, Room, slice-vals, mut_slice_Tells, ShrSlice, shr_slice_Tells, owned, nothing, on_entry, Args, Vals, Triple, cited, says, needs, Stays, stay_slice, stay_none, walk_of, Goes-slice, Goes-none, ends_at, walked, stay_none_slice, Goes-none_slice, stay_ref, Goes-ref, full_share, Ura, length, [], ◌∷◌, List, refl, ◌≡◌, ap, named, Val, vptr, Memory, Routine, Calls, Loops, WpFn, FmC, feq_l, ‵, ◌⊛◌, ⋆, ◌$◌, ◌∵◌, !, qed, by, move, drop, split, join, fsplit, fjoin, suffices, frame, done, keep, Item, whole, sub, look_in, agg, look, init, stop, hop, fld, from, load, assigns, returns, enter, alloc1, alloc0, params1, pass1, pass0, free0, and_then, no_more, land, addr}
+use Rattle.walk.proofs.Walk.{ref, shown, asks_none, Of, tokens, calls_any, out, framed_calls, finish}
 use Rattle.walk.proofs.Lends.{lend_slice, back_slice, lend_ref, back_ref, copy_slice}
-use Rattle.relay.proofs.Rows.{call_row, call_typed, outcome_row, outcome_typed}
+use Rattle.relay.proofs.Rows.{call_row, call_typed, asking_row, asking_typed, outcome_row, outcome_typed}
+use Rattle.decisions.specs.declared.Asking.{Asking}
+use Rattle.decisions.specs.contracts.Asking as Asking-t
 use Rattle.state.specs.declared.Bookkeeping.{Bookkeeping}
 use Rattle.state.specs.contracts.Bookkeeping as Bookkeeping-t
 use Rattle.interface.specs.declared.incoming.Call.{Call}
@@ -14,17 +16,17 @@ use Rattle.rules.specs.declared.answer.Outcome.{Outcome}
 use Rattle.rules.specs.contracts.answer.Outcome as Outcome-t
 use Rattle.slot.specs.declared.Slot.{Slot}
 use Rattle.slot.specs.contracts.Slot as Slot-t
-use Rattle.relay.specs.contracts.answer_first as answer-first
-use Rattle.relay.proofs.answer_first.Symbol as answer-first-def
-use Rattle.relay.proofs.answer_first.Symbol.{name as #relay·answer-first}
-use Rattle.relay.proofs.answer_first.Met as answer-first-thm
-use Rattle.relay.specs.contracts.answer_last as answer-last
-use Rattle.relay.proofs.answer_last.Symbol as answer-last-def
-use Rattle.relay.proofs.answer_last.Symbol.{name as #relay·answer-last}
-use Rattle.relay.proofs.answer_last.Met as answer-last-thm
+use Rattle.relay.specs.contracts.begin_call as begin-call
+use Rattle.relay.proofs.begin_call.Symbol as begin-call-def
+use Rattle.relay.proofs.begin_call.Symbol.{name as #relay·begin-call}
+use Rattle.relay.proofs.begin_call.Met as begin-call-thm
+use Rattle.relay.specs.contracts.answer_asked as answer-asked
+use Rattle.relay.proofs.answer_asked.Symbol as answer-asked-def
+use Rattle.relay.proofs.answer_asked.Symbol.{name as #relay·answer-asked}
+use Rattle.relay.proofs.answer_asked.Met as answer-asked-thm
 use Rattle.decisions.specs.Inner.{Ready}
 use Rattle.relay.specs.Inner.{DoesAccepted}
-use Rattle.relay.proofs.Laws.{asks_last, all_answered}
+use Rattle.relay.proofs.Laws.{begun-answered}
 use Rattle.relay.specs.contracts.accept_call.Key.{name as #relay·accept-call}
 use Rattle.relay.specs.contracts.accept_call as accept-call
 use Rattle.relay.proofs.accept_call.Statement as stated
@@ -93,48 +95,40 @@ module _ {M : Type 1} {𝓤 : Ura M} (𝓛 : Logic 𝓤) (mem : Memory → SProp
       nothing ! $ move ! (8 ∷ 0 ∷ []) $ join ! $ move ! (6 ∷ 0 ∷ []) $ join ! $ move ! (4 ∷ 0 ∷ []) $ join ! $ move ! (2 ∷ 0 ∷ []) $ join ! $ frame ! $
       nothing ! $ move ! (4 ∷ 0 ∷ []) $ fjoin ! $ move ! (3 ∷ 0 ∷ []) $ fjoin ! $ owned ! Call-t.the_row (Is Call-t.the_row) (call_row.makes 𝓛) call _ is_call $ fjoin ! $ move ! (2 ∷ 0 ∷ []) $ fjoin ! $ move ! (1 ∷ 0 ∷ []) $ fjoin ! $ frame ! $ owned ! Outcome-t.the_row (Is Outcome-t.the_row) (outcome_row.makes 𝓛) r _ is $ done !
 
-  module _ (C : Calls 𝓤 H) (Λ : Loops 𝓤 H) (fm : FmC 𝓤 H 𝓛.laws C) (known-answer-first : Triple 𝓤 (C #relay·answer-first) (Of 𝓛 answer-first.ended (answer-first.clauses 𝓛 mem run))) (known-answer-last : Triple 𝓤 (C #relay·answer-last) (Of 𝓛 answer-last.ended (answer-last.clauses 𝓛 mem run))) where
+  module _ (C : Calls 𝓤 H) (Λ : Loops 𝓤 H) (fm : FmC 𝓤 H 𝓛.laws C) (known-begin-call : Triple 𝓤 (C #relay·begin-call) (Of 𝓛 begin-call.ended (begin-call.clauses 𝓛 mem run))) (known-answer-asked : Triple 𝓤 (C #relay·answer-asked) (Of 𝓛 answer-asked.ended (answer-asked.clauses 𝓛 mem run))) where
     walk : Room Slot-t.the_row (length slots) → Room u8 (length datagram) → Room u8 (length reply) → Ready call datagram reply → ent 𝓤 (on_entry 𝓛 accept-call.signature κs qs a at) (WpFn 𝓤 H C Λ code.function (slice_val a.0.ptr (length slots) ∷ vptr a.1.0.ptr.0 a.1.0.ptr.1 ∷ call_row.val call ∷ slice_val a.1.1.1.0.ptr (length datagram) ∷ slice_val a.1.1.1.1.0.ptr (length reply) ∷ []) Post)
     walk room-slots room-datagram room-reply asked =
         qed 𝓛 ((t0 ⊛ (t1 ⊛ (t2 ⊛ (t3 ⊛ ‵ ftrue)))) ∷ ‵ (owns (MutSlice (named 0) κs.0 Slot-t.the_row ∷ MutRef (named 1) κs.1.0 Bookkeeping-t.the_row ∷ Call-t.the_row ∷ ShrSlice (named 2) κs.1.1.0 u8 ∷ MutSlice (named 3) κs.1.1.1.0 u8 ∷ []) a at) ∷ []) ∵
         split ! $ move ! (1 ∷ []) $ split ! $ move ! (1 ∷ []) $ split ! $ move ! (1 ∷ []) $ split ! $ move ! (5 ∷ []) $ fsplit ! $ move ! (1 ∷ []) $ fsplit ! $ move ! (1 ∷ []) $ fsplit ! $ drop ! $ fsplit ! $ move ! (1 ∷ []) $ fsplit ! $ move ! (1 ∷ []) $ keep ! (4 ∷ 9 ∷ 3 ∷ 8 ∷ 2 ∷ 7 ∷ 1 ∷ 5 ∷ []) $
         enter ! C Λ code.function (slice_val a.0.ptr (length slots) ∷ vptr a.1.0.ptr.0 a.1.0.ptr.1 ∷ call_row.val call ∷ slice_val a.1.1.1.0.ptr (length datagram) ∷ slice_val a.1.1.1.1.0.ptr (length reply) ∷ []) _ $
-        alloc1 ! (λ l₀. alloc1 ! (λ l₁. alloc1 ! (λ l₂. alloc1 ! (λ l₃. alloc1 ! (λ l₄. alloc1 ! (λ l₅. alloc1 ! (λ l₆. alloc1 ! (λ l₇. alloc1 ! (λ l₈. alloc1 ! (λ l₉. alloc1 ! (λ l₁₀. alloc1 ! (λ l₁₁. alloc1 ! (λ l₁₂. alloc1 ! (λ l₁₃. alloc1 ! (λ l₁₄. alloc1 ! (λ l₁₅. alloc1 ! (λ l₁₆. alloc0 ! $ params1 ! $
-        pass1 ! (init ! 30 refl (tt, (tt, (record { fits = room-slots.0 }, tt)))) $ pass1 ! (init ! 28 refl (tt, tt)) $ pass1 ! (init ! 26 refl (call_typed 𝓛 call is_call)) $ pass1 ! (init ! 24 refl (tt, (tt, (record { fits = room-datagram.0 }, tt)))) $ pass1 ! (init ! 22 refl (tt, (tt, (record { fits = room-reply.0 }, tt)))) $ pass0 ! $
-        -- the references and their tokens first: from here local k stands at 40 - 2 k
-        move ! (34 ∷ 35 ∷ 36 ∷ 37 ∷ 38 ∷ 39 ∷ 40 ∷ 41 ∷ []) $
-        assigns ! (addr ! (from ! (fld ! refl (hop ! (look_in ! 38 (sub ! 0 refl (whole !))) (stop !))))) (from ! (stop !)) (init ! 26 refl (tt, tt)) $
-        assigns ! (agg ! (and_then ! (load ! (from ! (stop !)) (look ! 26 refl)) (and_then ! (load ! (from ! (fld ! refl (stop !))) (look_in ! 38 (sub ! 1 refl (whole !)))) (no_more !)))) (from ! (stop !)) (init ! 24 refl (tt, (tt, (record { fits = room-slots.0 }, tt)))) $
-        assigns ! (addr ! (from ! (hop ! (look ! 36 refl) (stop !)))) (from ! (stop !)) (init ! 22 refl (tt, tt)) $
-        assigns ! (addr ! (from ! (fld ! refl (hop ! (look_in ! 30 (sub ! 0 refl (whole !))) (stop !))))) (from ! (stop !)) (init ! 20 refl (tt, tt)) $
-        assigns ! (agg ! (and_then ! (load ! (from ! (stop !)) (look ! 20 refl)) (and_then ! (load ! (from ! (fld ! refl (stop !))) (look_in ! 30 (sub ! 1 refl (whole !)))) (no_more !)))) (from ! (stop !)) (init ! 18 refl (tt, (tt, (record { fits = room-reply.0 }, tt)))) $
-        -- `answer_first`
-        move ! (6 ∷ 7 ∷ []) $ lend_slice ! tt u8 (named 3) (named 3) a.1.1.1.1.0.ptr.0 a.1.1.1.1.0.ptr.1 reply (slice_val a.1.1.1.1.0.ptr (length reply)) (λ ν-answer-first-reply δ-answer-first-reply.
-        move ! (8 ∷ 9 ∷ []) $ copy_slice ! u8 (named 2) a.1.1.1.0.ptr.0 a.1.1.1.0.ptr.1 datagram (slice_val a.1.1.1.0.ptr (length datagram)) $
-        move ! (10 ∷ 11 ∷ []) $ lend_ref ! tt Bookkeeping-t.the_row (named 1) (named 1) a.1.0.ptr.0 a.1.0.ptr.1 now_bookkeeping (λ ν-answer-first-bookkeeping δ-answer-first-bookkeeping.
-        move ! (12 ∷ 13 ∷ []) $ lend_slice ! tt Slot-t.the_row (named 0) (named 0) a.0.ptr.0 a.0.ptr.1 slots (slice_val a.0.ptr (length slots)) (λ ν-answer-first-slots δ-answer-first-slots.
-        nothing ! $ move ! (14 ∷ 0 ∷ []) $ join ! $ move ! (10 ∷ 0 ∷ []) $ join ! $ move ! (6 ∷ 0 ∷ []) $ join ! $ move ! (2 ∷ 0 ∷ []) $ join ! $ nothing ! $ move ! (11 ∷ 0 ∷ []) $ fjoin ! $ move ! (8 ∷ 0 ∷ []) $ fjoin ! $ owned ! Call-t.the_row (Is Call-t.the_row) (call_row.makes 𝓛) call _ is_call $ fjoin ! $ move ! (5 ∷ 0 ∷ []) $ fjoin ! $ move ! (2 ∷ 0 ∷ []) $ fjoin ! $ move ! (1 ∷ 0 ∷ []) $
-        calls_any ! fm answer-first.ended (answer-first.clauses 𝓛 mem run) (ν-answer-first-slots ∷ [], (ν-answer-first-bookkeeping ∷ [], (κs.1.1.0, (ν-answer-first-reply ∷ [], tt)))) (full_share, (full_share, (qs.1.1.0, (full_share, tt)))) tt outcome_row (ref a.0.ptr.0 a.0.ptr.1 δ-answer-first-slots slots, (ref a.1.0.ptr.0 a.1.0.ptr.1 δ-answer-first-bookkeeping now_bookkeeping, (call, (ref a.1.1.1.0.ptr.0 a.1.1.1.0.ptr.1 a.1.1.1.0.name datagram, (ref a.1.1.1.1.0.ptr.0 a.1.1.1.1.0.ptr.1 δ-answer-first-reply reply, tt))))) (slice_val a.0.ptr (length slots) ∷ [], (vptr a.1.0.ptr.0 a.1.0.ptr.1 ∷ [], (call_row.val call ∷ [], (slice_val a.1.1.1.0.ptr (length datagram) ∷ [], (slice_val a.1.1.1.1.0.ptr (length reply) ∷ [], tt))))) tt (λ r ws. _) known-answer-first (shown 𝓛 asked) (λ r ws. id⊢ 𝓤 _)
-        (and_then ! (load ! (from ! (stop !)) (look ! 25 refl)) (and_then ! (load ! (from ! (stop !)) (look ! 23 refl)) (and_then ! (load ! (from ! (stop !)) (look ! 35 refl)) (and_then ! (load ! (from ! (stop !)) (look ! 33 refl)) (and_then ! (load ! (from ! (stop !)) (look ! 19 refl)) (no_more !)))))) (λ r-answer-first ws-answer-first is-answer-first e-answer-first.
-        split ! $ move ! (1 ∷ []) $ split ! $ move ! (1 ∷ []) $ split ! $ move ! (1 ∷ []) $ split ! $ move ! (1 ∷ []) $ drop ! $ move ! (4 ∷ []) $ fsplit ! $ fsplit ! $ move ! (1 ∷ []) $ feq_l ! (λ l-answer-first-slots. move ! (0 ∷ 5 ∷ 6 ∷ 7 ∷ []) $ back_slice ! tt Slot-t.the_row (named 0) a.0.ptr.0 a.0.ptr.1 slots ws-answer-first.0 (slice_val a.0.ptr (length slots)) l-answer-first-slots refl room-slots $ move ! (2 ∷ []) $ fsplit ! $ move ! (0 ∷ 6 ∷ 7 ∷ 8 ∷ []) $ back_ref ! tt Bookkeeping-t.the_row (named 1) a.1.0.ptr.0 a.1.0.ptr.1 now_bookkeeping ws-answer-first.1.0 $ move ! (2 ∷ []) $ fsplit ! $ drop ! $ fsplit ! $ drop ! $ move ! (6 ∷ 7 ∷ 8 ∷ []) $ move ! (1 ∷ 0 ∷ 2 ∷ []) $ move ! (2 ∷ []) $ drop ! $ move ! (2 ∷ []) $ fsplit ! $ fsplit ! $ move ! (1 ∷ []) $ feq_l ! (λ l-answer-first-reply. move ! (0 ∷ 8 ∷ 9 ∷ 10 ∷ []) $ back_slice ! tt u8 (named 3) a.1.1.1.1.0.ptr.0 a.1.1.1.1.0.ptr.1 reply ws-answer-first.1.1.1.1.0 (slice_val a.1.1.1.1.0.ptr (length reply)) l-answer-first-reply refl room-reply $ move ! (2 ∷ []) $ drop ! $
-        land ! (from ! (stop !)) (init ! 28 refl (outcome_typed 𝓛 r-answer-first is-answer-first)) $
-        assigns ! (addr ! (from ! (fld ! refl (hop ! (look_in ! 38 (sub ! 0 refl (whole !))) (stop !))))) (from ! (stop !)) (init ! 16 refl (tt, tt)) $
-        assigns ! (agg ! (and_then ! (load ! (from ! (stop !)) (look ! 16 refl)) (and_then ! (load ! (from ! (fld ! refl (stop !))) (look_in ! 38 (sub ! 1 refl (whole !)))) (no_more !)))) (from ! (stop !)) (init ! 14 refl (tt, (tt, (record { fits = room-slots.0 }, tt)))) $
-        assigns ! (addr ! (from ! (hop ! (look ! 36 refl) (stop !)))) (from ! (stop !)) (init ! 12 refl (tt, tt)) $
-        assigns ! (addr ! (from ! (fld ! refl (hop ! (look_in ! 30 (sub ! 0 refl (whole !))) (stop !))))) (from ! (stop !)) (init ! 10 refl (tt, tt)) $
-        assigns ! (agg ! (and_then ! (load ! (from ! (stop !)) (look ! 10 refl)) (and_then ! (load ! (from ! (fld ! refl (stop !))) (look_in ! 30 (sub ! 1 refl (whole !)))) (no_more !)))) (from ! (stop !)) (init ! 8 refl (tt, (tt, (record { fits = room-reply.0 }, tt)))) $
-        -- `answer_last`
-        lend_slice ! tt u8 (named 3) (named 3) a.1.1.1.1.0.ptr.0 a.1.1.1.1.0.ptr.1 ws-answer-first.1.1.1.1.0 (slice_val a.1.1.1.1.0.ptr (length reply)) (λ ν-answer-last-reply δ-answer-last-reply.
+        alloc1 ! (λ l₀. alloc1 ! (λ l₁. alloc1 ! (λ l₂. alloc1 ! (λ l₃. alloc1 ! (λ l₄. alloc1 ! (λ l₅. alloc1 ! (λ l₆. alloc1 ! (λ l₇. alloc1 ! (λ l₈. alloc1 ! (λ l₉. alloc1 ! (λ l₁₀. alloc1 ! (λ l₁₁. alloc0 ! $ params1 ! $
+        pass1 ! (init ! 20 refl (tt, (tt, (record { fits = room-slots.0 }, tt)))) $ pass1 ! (init ! 18 refl (tt, tt)) $ pass1 ! (init ! 16 refl (call_typed 𝓛 call is_call)) $ pass1 ! (init ! 14 refl (tt, (tt, (record { fits = room-datagram.0 }, tt)))) $ pass1 ! (init ! 12 refl (tt, (tt, (record { fits = room-reply.0 }, tt)))) $ pass0 ! $
+        -- the references and their tokens first: from here local k stands at 30 - 2 k
+        move ! (24 ∷ 25 ∷ 26 ∷ 27 ∷ 28 ∷ 29 ∷ 30 ∷ 31 ∷ []) $
+        assigns ! (addr ! (from ! (hop ! (look ! 26 refl) (stop !)))) (from ! (stop !)) (init ! 16 refl (tt, tt)) $
+        -- `begin_call`
         move ! (4 ∷ 5 ∷ []) $ copy_slice ! u8 (named 2) a.1.1.1.0.ptr.0 a.1.1.1.0.ptr.1 datagram (slice_val a.1.1.1.0.ptr (length datagram)) $
-        move ! (8 ∷ 9 ∷ []) $ lend_ref ! tt Bookkeeping-t.the_row (named 1) (named 1) a.1.0.ptr.0 a.1.0.ptr.1 ws-answer-first.1.0 (λ ν-answer-last-bookkeeping δ-answer-last-bookkeeping.
-        move ! (12 ∷ 13 ∷ []) $ lend_slice ! tt Slot-t.the_row (named 0) (named 0) a.0.ptr.0 a.0.ptr.1 ws-answer-first.0 (slice_val a.0.ptr (length slots)) (λ ν-answer-last-slots δ-answer-last-slots.
-        nothing ! $ move ! (14 ∷ 0 ∷ []) $ join ! $ move ! (10 ∷ 0 ∷ []) $ join ! $ move ! (6 ∷ 0 ∷ []) $ join ! $ move ! (2 ∷ 0 ∷ []) $ join ! $ nothing ! $ move ! (11 ∷ 0 ∷ []) $ fjoin ! $ move ! (8 ∷ 0 ∷ []) $ fjoin ! $ owned ! Outcome-t.the_row (Is Outcome-t.the_row) (outcome_row.makes 𝓛) r-answer-first _ is-answer-first $ fjoin ! $ owned ! Call-t.the_row (Is Call-t.the_row) (call_row.makes 𝓛) call _ is_call $ fjoin ! $ move ! (5 ∷ 0 ∷ []) $ fjoin ! $ move ! (2 ∷ 0 ∷ []) $ fjoin ! $ move ! (1 ∷ 0 ∷ []) $
-        calls_any ! fm answer-last.ended (answer-last.clauses 𝓛 mem run) (ν-answer-last-slots ∷ [], (ν-answer-last-bookkeeping ∷ [], (κs.1.1.0, (ν-answer-last-reply ∷ [], tt)))) (full_share, (full_share, (qs.1.1.0, (full_share, tt)))) tt outcome_row (ref a.0.ptr.0 a.0.ptr.1 δ-answer-last-slots ws-answer-first.0, (ref a.1.0.ptr.0 a.1.0.ptr.1 δ-answer-last-bookkeeping ws-answer-first.1.0, (call, (r-answer-first, (ref a.1.1.1.0.ptr.0 a.1.1.1.0.ptr.1 a.1.1.1.0.name datagram, (ref a.1.1.1.1.0.ptr.0 a.1.1.1.1.0.ptr.1 δ-answer-last-reply ws-answer-first.1.1.1.1.0, tt)))))) (slice_val a.0.ptr (length slots) ∷ [], (vptr a.1.0.ptr.0 a.1.0.ptr.1 ∷ [], (call_row.val call ∷ [], (outcome_row.val r-answer-first ∷ [], (slice_val a.1.1.1.0.ptr (length datagram) ∷ [], (slice_val a.1.1.1.1.0.ptr (length reply) ∷ [], tt)))))) tt (λ r ws. _) known-answer-last (shown 𝓛 (asks_last asked e-answer-first)) (λ r ws. id⊢ 𝓤 _)
-        (and_then ! (load ! (from ! (stop !)) (look ! 15 refl)) (and_then ! (load ! (from ! (stop !)) (look ! 13 refl)) (and_then ! (load ! (from ! (stop !)) (look ! 35 refl)) (and_then ! (load ! (from ! (stop !)) (look ! 29 refl)) (and_then ! (load ! (from ! (stop !)) (look ! 33 refl)) (and_then ! (load ! (from ! (stop !)) (look ! 9 refl)) (no_more !))))))) (λ r-answer-last ws-answer-last is-answer-last e-answer-last.
-        split ! $ move ! (1 ∷ []) $ split ! $ move ! (1 ∷ []) $ split ! $ move ! (1 ∷ []) $ split ! $ move ! (1 ∷ []) $ drop ! $ move ! (4 ∷ []) $ fsplit ! $ fsplit ! $ move ! (1 ∷ []) $ feq_l ! (λ l-answer-last-slots. move ! (0 ∷ 5 ∷ 6 ∷ 7 ∷ []) $ back_slice ! tt Slot-t.the_row (named 0) a.0.ptr.0 a.0.ptr.1 ws-answer-first.0 ws-answer-last.0 (slice_val a.0.ptr (length slots)) l-answer-last-slots (ap (slice_val a.0.ptr) (sym l-answer-first-slots)) (subst (Room Slot-t.the_row) (sym l-answer-first-slots) room-slots) $ move ! (2 ∷ []) $ fsplit ! $ move ! (0 ∷ 6 ∷ 7 ∷ 8 ∷ []) $ back_ref ! tt Bookkeeping-t.the_row (named 1) a.1.0.ptr.0 a.1.0.ptr.1 ws-answer-first.1.0 ws-answer-last.1.0 $ move ! (2 ∷ []) $ fsplit ! $ drop ! $ fsplit ! $ drop ! $ fsplit ! $ drop ! $ move ! (6 ∷ 7 ∷ 8 ∷ []) $ move ! (1 ∷ 0 ∷ 2 ∷ []) $ move ! (2 ∷ []) $ drop ! $ move ! (2 ∷ []) $ fsplit ! $ fsplit ! $ move ! (1 ∷ []) $ feq_l ! (λ l-answer-last-reply. move ! (0 ∷ 8 ∷ 9 ∷ 10 ∷ []) $ back_slice ! tt u8 (named 3) a.1.1.1.1.0.ptr.0 a.1.1.1.1.0.ptr.1 ws-answer-first.1.1.1.1.0 ws-answer-last.1.1.1.1.1.0 (slice_val a.1.1.1.1.0.ptr (length reply)) l-answer-last-reply (ap (slice_val a.1.1.1.1.0.ptr) (sym l-answer-first-reply)) (subst (Room u8) (sym l-answer-first-reply) room-reply) $ move ! (2 ∷ []) $ drop ! $
-        land ! (from ! (stop !)) (init ! 40 refl (outcome_typed 𝓛 r-answer-last is-answer-last)) $
-        returns ! (look ! 40 refl) $ out ! 40 refl refl $ out ! 38 refl refl $ out ! 36 refl refl $ out ! 34 refl refl $ out ! 32 refl refl $ out ! 30 refl refl $ out ! 28 refl refl $ out ! 26 refl refl $ out ! 24 refl refl $ out ! 22 refl refl $ out ! 20 refl refl $ out ! 18 refl refl $ out ! 16 refl refl $ out ! 14 refl refl $ out ! 12 refl refl $ out ! 10 refl refl $ out ! 8 refl refl $ free0 ! $
-        keep ! (6 ∷ 7 ∷ 4 ∷ 5 ∷ 2 ∷ 3 ∷ 0 ∷ 1 ∷ []) $ by ! (exits r-answer-last ws-answer-last.0 ws-answer-last.1.0 ws-answer-last.1.1.1.1.1.0 (all_answered call datagram e-answer-first e-answer-last) (l-answer-last-slots ∙ l-answer-first-slots) (l-answer-last-reply ∙ l-answer-first-reply) is-answer-last))))))))))))))))))))))))))))))
+        move ! (6 ∷ 7 ∷ []) $ lend_ref ! tt Bookkeeping-t.the_row (named 1) (named 0) a.1.0.ptr.0 a.1.0.ptr.1 now_bookkeeping (λ ν-begin-call-bookkeeping δ-begin-call-bookkeeping.
+        nothing ! $ move ! (6 ∷ 0 ∷ []) $ join ! $ move ! (2 ∷ 0 ∷ []) $ join ! $ nothing ! $ owned ! Call-t.the_row (Is Call-t.the_row) (call_row.makes 𝓛) call _ is_call $ fjoin ! $ move ! (5 ∷ 0 ∷ []) $ fjoin ! $ move ! (2 ∷ 0 ∷ []) $ fjoin ! $ move ! (1 ∷ 0 ∷ []) $
+        calls_any ! fm begin-call.ended (begin-call.clauses 𝓛 mem run) (ν-begin-call-bookkeeping ∷ [], (κs.1.1.0, tt)) (full_share, (qs.1.1.0, tt)) tt asking_row (ref a.1.0.ptr.0 a.1.0.ptr.1 δ-begin-call-bookkeeping now_bookkeeping, (ref a.1.1.1.0.ptr.0 a.1.1.1.0.ptr.1 a.1.1.1.0.name datagram, (call, tt))) (vptr a.1.0.ptr.0 a.1.0.ptr.1 ∷ [], (slice_val a.1.1.1.0.ptr (length datagram) ∷ [], (call_row.val call ∷ [], tt))) tt (λ r ws. _) known-begin-call (asks_none 𝓛) (λ r ws. id⊢ 𝓤 _)
+        (and_then ! (load ! (from ! (stop !)) (look ! 17 refl)) (and_then ! (load ! (from ! (stop !)) (look ! 23 refl)) (and_then ! (load ! (from ! (stop !)) (look ! 25 refl)) (no_more !)))) (λ r-begin-call ws-begin-call is-begin-call e-begin-call.
+        split ! $ move ! (1 ∷ []) $ split ! $ move ! (1 ∷ []) $ drop ! $ move ! (2 ∷ []) $ fsplit ! $ move ! (0 ∷ 3 ∷ 4 ∷ 5 ∷ []) $ back_ref ! tt Bookkeeping-t.the_row (named 1) a.1.0.ptr.0 a.1.0.ptr.1 now_bookkeeping ws-begin-call.0 $ move ! (2 ∷ []) $ fsplit ! $ drop ! $ move ! (3 ∷ 4 ∷ 5 ∷ []) $ move ! (1 ∷ 0 ∷ 2 ∷ []) $ move ! (2 ∷ []) $ drop ! $ move ! (2 ∷ []) $ fsplit ! $ drop ! $ drop ! $
+        land ! (from ! (stop !)) (init ! 18 refl (asking_typed 𝓛 r-begin-call is-begin-call)) $
+        assigns ! (addr ! (from ! (fld ! refl (hop ! (look_in ! 28 (sub ! 0 refl (whole !))) (stop !))))) (from ! (stop !)) (init ! 14 refl (tt, tt)) $
+        assigns ! (agg ! (and_then ! (load ! (from ! (stop !)) (look ! 14 refl)) (and_then ! (load ! (from ! (fld ! refl (stop !))) (look_in ! 28 (sub ! 1 refl (whole !)))) (no_more !)))) (from ! (stop !)) (init ! 12 refl (tt, (tt, (record { fits = room-slots.0 }, tt)))) $
+        assigns ! (addr ! (from ! (fld ! refl (hop ! (look_in ! 20 (sub ! 0 refl (whole !))) (stop !))))) (from ! (stop !)) (init ! 10 refl (tt, tt)) $
+        assigns ! (agg ! (and_then ! (load ! (from ! (stop !)) (look ! 10 refl)) (and_then ! (load ! (from ! (fld ! refl (stop !))) (look_in ! 20 (sub ! 1 refl (whole !)))) (no_more !)))) (from ! (stop !)) (init ! 8 refl (tt, (tt, (record { fits = room-reply.0 }, tt)))) $
+        -- `answer_asked`
+        move ! (6 ∷ 7 ∷ []) $ lend_slice ! tt u8 (named 3) (named 2) a.1.1.1.1.0.ptr.0 a.1.1.1.1.0.ptr.1 reply (slice_val a.1.1.1.1.0.ptr (length reply)) (λ ν-answer-asked-reply δ-answer-asked-reply.
+        move ! (4 ∷ 5 ∷ []) $ copy_slice ! u8 (named 2) a.1.1.1.0.ptr.0 a.1.1.1.0.ptr.1 datagram (slice_val a.1.1.1.0.ptr (length datagram)) $
+        move ! (10 ∷ 11 ∷ []) $ lend_slice ! tt Slot-t.the_row (named 0) (named 0) a.0.ptr.0 a.0.ptr.1 slots (slice_val a.0.ptr (length slots)) (λ ν-answer-asked-slots δ-answer-asked-slots.
+        nothing ! $ move ! (10 ∷ 0 ∷ []) $ join ! $ move ! (6 ∷ 0 ∷ []) $ join ! $ move ! (2 ∷ 0 ∷ []) $ join ! $ nothing ! $ move ! (8 ∷ 0 ∷ []) $ fjoin ! $ move ! (5 ∷ 0 ∷ []) $ fjoin ! $ owned ! Asking-t.the_row (Is Asking-t.the_row) (asking_row.makes 𝓛) r-begin-call _ is-begin-call $ fjoin ! $ owned ! Call-t.the_row (Is Call-t.the_row) (call_row.makes 𝓛) call _ is_call $ fjoin ! $ move ! (2 ∷ 0 ∷ []) $ fjoin ! $ move ! (1 ∷ 0 ∷ []) $
+        calls_any ! fm answer-asked.ended (answer-asked.clauses 𝓛 mem run) (ν-answer-asked-slots ∷ [], (κs.1.1.0, (ν-answer-asked-reply ∷ [], tt))) (full_share, (qs.1.1.0, (full_share, tt))) tt outcome_row (ref a.0.ptr.0 a.0.ptr.1 δ-answer-asked-slots slots, (call, (r-begin-call, (ref a.1.1.1.0.ptr.0 a.1.1.1.0.ptr.1 a.1.1.1.0.name datagram, (ref a.1.1.1.1.0.ptr.0 a.1.1.1.1.0.ptr.1 δ-answer-asked-reply reply, tt))))) (slice_val a.0.ptr (length slots) ∷ [], (call_row.val call ∷ [], (asking_row.val r-begin-call ∷ [], (slice_val a.1.1.1.0.ptr (length datagram) ∷ [], (slice_val a.1.1.1.1.0.ptr (length reply) ∷ [], tt))))) tt (λ r ws. _) known-answer-asked (shown 𝓛 (asked, ap (λ (x : Asking). x.asked) e-begin-call.asking_is)) (λ r ws. id⊢ 𝓤 _)
+        (and_then ! (load ! (from ! (stop !)) (look ! 13 refl)) (and_then ! (load ! (from ! (stop !)) (look ! 25 refl)) (and_then ! (load ! (from ! (stop !)) (look ! 19 refl)) (and_then ! (load ! (from ! (stop !)) (look ! 23 refl)) (and_then ! (load ! (from ! (stop !)) (look ! 9 refl)) (no_more !)))))) (λ r-answer-asked ws-answer-asked is-answer-asked e-answer-asked.
+        split ! $ move ! (1 ∷ []) $ split ! $ move ! (1 ∷ []) $ split ! $ move ! (1 ∷ []) $ drop ! $ move ! (3 ∷ []) $ fsplit ! $ fsplit ! $ move ! (1 ∷ []) $ feq_l ! (λ l-answer-asked-slots. move ! (0 ∷ 4 ∷ 5 ∷ 6 ∷ []) $ back_slice ! tt Slot-t.the_row (named 0) a.0.ptr.0 a.0.ptr.1 slots ws-answer-asked.0 (slice_val a.0.ptr (length slots)) l-answer-asked-slots refl room-slots $ move ! (2 ∷ []) $ fsplit ! $ drop ! $ fsplit ! $ drop ! $ fsplit ! $ drop ! $ move ! (4 ∷ 5 ∷ 6 ∷ []) $ move ! (1 ∷ 0 ∷ 2 ∷ []) $ move ! (2 ∷ []) $ drop ! $ move ! (2 ∷ []) $ fsplit ! $ fsplit ! $ move ! (1 ∷ []) $ feq_l ! (λ l-answer-asked-reply. move ! (0 ∷ 6 ∷ 7 ∷ 8 ∷ []) $ back_slice ! tt u8 (named 3) a.1.1.1.1.0.ptr.0 a.1.1.1.1.0.ptr.1 reply ws-answer-asked.1.1.1.1.0 (slice_val a.1.1.1.1.0.ptr (length reply)) l-answer-asked-reply refl room-reply $ move ! (2 ∷ []) $ drop ! $
+        land ! (from ! (stop !)) (init ! 30 refl (outcome_typed 𝓛 r-answer-asked is-answer-asked)) $
+        returns ! (look ! 30 refl) $ out ! 30 refl refl $ out ! 28 refl refl $ out ! 26 refl refl $ out ! 24 refl refl $ out ! 22 refl refl $ out ! 20 refl refl $ out ! 18 refl refl $ out ! 16 refl refl $ out ! 14 refl refl $ out ! 12 refl refl $ out ! 10 refl refl $ out ! 8 refl refl $ free0 ! $
+        keep ! (4 ∷ 5 ∷ 6 ∷ 7 ∷ 2 ∷ 3 ∷ 0 ∷ 1 ∷ []) $ by ! (exits r-answer-asked ws-answer-asked.0 ws-begin-call.0 ws-answer-asked.1.1.1.1.0 (begun-answered e-begin-call e-answer-asked) l-answer-asked-slots l-answer-asked-reply is-answer-asked))))))))))))))))))))
 
 pub accept_call_spec : {M : Type 1} → stated.statement M
 unfolding code.routine
@@ -149,6 +143,6 @@ accept_call_spec 𝓤 𝓛 𝓜 𝓡 =
     (walked 𝓛 accept-call.ended stayed (accept-call.clauses 𝓛 mem run) (WpFn 𝓤 𝓛.H C Λ code.function) (λ κs. (mut_slice_vals, (mut_vals, ((λ x. call_row.val x ∷ []), (shr_slice_vals, (mut_slice_vals, tt)))))) (λ κs. (mut_slice_Tells (named 0) κs.0 Slot-t.the_row, (mut_Tells (named 1) κs.1.0 Bookkeeping-t.the_row, (call_row.tells, (shr_slice_Tells (named 2) κs.1.1.0 u8, (mut_slice_Tells (named 3) κs.1.1.1.0 u8, tt))))))
     (λ κs qs bounds a g are. needs 𝓤 (Ready a.1.1.0 a.1.1.1.0.now a.1.1.1.1.0.now) _
     (walk 𝓛 mem run κs qs a are.1.1.0 C Λ (framed_calls 𝓛 𝓜 𝓡 code.env)
-    (cited 𝓤 𝓛.H (Of 𝓛 answer-first.ended (answer-first.clauses 𝓛 mem run)) 𝓜 𝓡 code.env #relay·answer-first answer-first-def.routine code.calls-relay::answer-first (answer-first-thm.met 𝓤 𝓛 𝓜 𝓡))
-    (cited 𝓤 𝓛.H (Of 𝓛 answer-last.ended (answer-last.clauses 𝓛 mem run)) 𝓜 𝓡 code.env #relay·answer-last answer-last-def.routine code.calls-relay::answer-last (answer-last-thm.met 𝓤 𝓛 𝓜 𝓡))
+    (cited 𝓤 𝓛.H (Of 𝓛 begin-call.ended (begin-call.clauses 𝓛 mem run)) 𝓜 𝓡 code.env #relay·begin-call begin-call-def.routine code.calls-relay::begin-call (begin-call-thm.met 𝓤 𝓛 𝓜 𝓡))
+    (cited 𝓤 𝓛.H (Of 𝓛 answer-asked.ended (answer-asked.clauses 𝓛 mem run)) 𝓜 𝓡 code.env #relay·answer-asked answer-asked-def.routine code.calls-relay::answer-asked (answer-asked-thm.met 𝓤 𝓛 𝓜 𝓡))
     are.0.0.1 are.1.1.1.0.0.1 are.1.1.1.1.0.0.1)))

@@ -26,7 +26,6 @@ use Rattle.relay.specs.contracts.answer_request as answer-request
 use Rattle.relay.proofs.answer_request.Symbol as answer-request-def
 use Rattle.relay.proofs.answer_request.Symbol.{name as #relay·answer-request}
 use Rattle.relay.proofs.answer_request.Met as answer-request-thm
-use Rattle.hold.specs.declared.Hold.{Hold}
 use Rattle.slot.specs.Search.{at_or}
 use Rattle.slot.specs.Slot.{fresh_slot}
 use Rattle.decisions.specs.Decisions.{decided}
@@ -118,10 +117,10 @@ module _ {M : Type 1} {𝓤 : Ura M} (𝓛 : Logic 𝓤) (mem : Memory → SProp
         -- `pass_data`
         move ! (4 ∷ 5 ∷ []) $
         move ! (4 ∷ 5 ∷ []) $
-        calls_both ! fm u8 u8 outcome_row (pass-data.clauses 𝓛 mem run) (λ r zs. Answering call (λ (h : List Hold) (l : List Slot). (decided seen.denied h call datagram l).change) seen.survey own reply zs (unwritten r own)) (named 1) a.1.1.1.1.0.ptr.0 a.1.1.1.1.0.ptr.1 datagram (slice_val a.1.1.1.1.0.ptr (length datagram)) (named 2) a.1.1.1.1.1.0.ptr.0 a.1.1.1.1.1.0.ptr.1 reply (slice_val a.1.1.1.1.1.0.ptr (length reply)) (λ ν. (call, (seen, (own, tt)))) (λ ν. (call_row, (seen_row, (slot_row, tt)))) (λ ν δ. tt) known-pass-data (λ ν. (is_call, (is_seen, (is-own, tt)))) (λ ν δ. (shown 𝓛 ((asked.0.0, asked.0.1.asked), sym e-is-data ∙ holds_true _ held))) (λ ν δ r ws. id⊢ 𝓤 _)
+        calls_both ! fm u8 u8 outcome_row (pass-data.clauses 𝓛 mem run) (λ r zs. Answering call seen.asked (λ (l : List Slot). (decided seen.denied call datagram l).change) seen.survey own reply zs (unwritten r own)) (named 1) a.1.1.1.1.0.ptr.0 a.1.1.1.1.0.ptr.1 datagram (slice_val a.1.1.1.1.0.ptr (length datagram)) (named 2) a.1.1.1.1.1.0.ptr.0 a.1.1.1.1.1.0.ptr.1 reply (slice_val a.1.1.1.1.1.0.ptr (length reply)) (λ ν. (call, (seen, (own, tt)))) (λ ν. (call_row, (seen_row, (slot_row, tt)))) (λ ν δ. tt) known-pass-data (λ ν. (is_call, (is_seen, (is-own, tt)))) (λ ν δ. (shown 𝓛 ((asked.0.0, asked.0.1.asked), sym e-is-data ∙ holds_true _ held))) (λ ν δ r ws. id⊢ 𝓤 _)
         (λ ν δ. (and_then ! (load ! (from ! (stop !)) (look ! 22 refl)) (and_then ! (load ! (from ! (stop !)) (look ! 14 refl)) (and_then ! (load ! (from ! (stop !)) (look ! 28 refl)) (and_then ! (load ! (from ! (stop !)) (look ! 26 refl)) (and_then ! (load ! (from ! (stop !)) (look ! 24 refl)) (no_more !))))))) (λ r-pass-data zs-pass-data l-pass-data is-pass-data e-pass-data. land ! (from ! (stop !)) (init ! 32 refl (outcome_typed 𝓛 r-pass-data is-pass-data)) $
         returns_within ! Post refl (look ! 32 refl) $ out ! 32 refl refl $ out ! 30 refl refl $ out ! 28 refl refl $ out ! 26 refl refl $ out ! 24 refl refl $ out ! 22 refl refl $ out ! 20 refl refl $ out ! 18 refl refl $ out ! 16 refl refl $ out ! 14 refl refl $ out_room ! 12 refl refl $ out_room ! 10 refl refl $ out_room ! 8 refl refl $ out_room ! 6 refl refl $ free0 ! $
-        keep ! (4 ∷ 5 ∷ 0 ∷ 1 ∷ 2 ∷ 3 ∷ []) $ by ! (exits r-pass-data slots zs-pass-data (answered slots call datagram reply seen asked.0.1 (λ (h : List Hold). e-pass-data h slots asked.0.1.looked asked.1) (data_back slots seen)) refl l-pass-data is-pass-data)))
+        keep ! (4 ∷ 5 ∷ 0 ∷ 1 ∷ 2 ∷ 3 ∷ []) $ by ! (exits r-pass-data slots zs-pass-data (answered slots call datagram reply seen asked.0.1 (e-pass-data slots asked.0.1.looked asked.1) (data_back slots seen)) refl l-pass-data is-pass-data)))
         (λ failed.
         assigns ! (addr ! (from ! (fld ! refl (hop ! (look_in ! 30 (sub ! 0 refl (whole !))) (stop !))))) (from ! (stop !)) (init ! 12 refl (tt, tt)) $
         assigns ! (agg ! (and_then ! (load ! (from ! (stop !)) (look ! 12 refl)) (and_then ! (load ! (from ! (fld ! refl (stop !))) (look_in ! 30 (sub ! 1 refl (whole !)))) (no_more !)))) (from ! (stop !)) (init ! 10 refl (tt, (tt, (record { fits = room-slots.0 }, tt)))) $

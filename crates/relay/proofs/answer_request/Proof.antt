@@ -23,8 +23,6 @@ use Rattle.relay.specs.contracts.write_found as write-found
 use Rattle.relay.proofs.write_found.Symbol as write-found-def
 use Rattle.relay.proofs.write_found.Symbol.{name as #relay·write-found}
 use Rattle.relay.proofs.write_found.Met as write-found-thm
-use Rattle.rules.specs.Inner.{Answers}
-use Rattle.hold.specs.declared.Hold.{Hold}
 use mathlib.Core.Bool.{false, false≢true}
 use Rattle.slot.specs.Search.{at_or}
 use Rattle.slot.specs.Slot.{fresh_slot}
@@ -112,9 +110,9 @@ module _ {M : Type 1} {𝓤 : Ura M} (𝓛 : Logic 𝓤) (mem : Memory → SProp
         -- `answer_call`
         move ! (4 ∷ 5 ∷ []) $
         move ! (4 ∷ 5 ∷ []) $
-        calls_both ! fm u8 u8 answer_row (answer-call.clauses 𝓛 mem run) (λ r zs. Answering call (λ (h : List Hold) (l : List Slot). (decided seen.denied h call datagram l).change) seen.survey own reply zs r) (named 1) a.1.1.1.1.0.ptr.0 a.1.1.1.1.0.ptr.1 datagram (slice_val a.1.1.1.1.0.ptr (length datagram)) (named 2) a.1.1.1.1.1.0.ptr.0 a.1.1.1.1.1.0.ptr.1 reply (slice_val a.1.1.1.1.1.0.ptr (length reply)) (λ ν. (call, (seen, (own, tt)))) (λ ν. (call_row, (seen_row, (slot_row, tt)))) (λ ν δ. tt) known-answer-call (λ ν. (is_call, (is_seen, (is-own, tt)))) (λ ν δ. (shown 𝓛 ((asked.0.0, asked.0.1.asked), ((λ y. absurd (false≢true (sym asked.1.1 ∙ y))), asked.0.1.other)))) (λ ν δ r ws. id⊢ 𝓤 _)
+        calls_both ! fm u8 u8 answer_row (answer-call.clauses 𝓛 mem run) (λ r zs. Answering call seen.asked (λ (l : List Slot). (decided seen.denied call datagram l).change) seen.survey own reply zs r) (named 1) a.1.1.1.1.0.ptr.0 a.1.1.1.1.0.ptr.1 datagram (slice_val a.1.1.1.1.0.ptr (length datagram)) (named 2) a.1.1.1.1.1.0.ptr.0 a.1.1.1.1.1.0.ptr.1 reply (slice_val a.1.1.1.1.1.0.ptr (length reply)) (λ ν. (call, (seen, (own, tt)))) (λ ν. (call_row, (seen_row, (slot_row, tt)))) (λ ν δ. tt) known-answer-call (λ ν. (is_call, (is_seen, (is-own, tt)))) (λ ν δ. (shown 𝓛 ((asked.0.0, asked.0.1.asked), λ y. absurd (false≢true (sym asked.1.1 ∙ y))))) (λ ν δ r ws. id⊢ 𝓤 _)
         (λ ν δ. (and_then ! (load ! (from ! (stop !)) (look ! 18 refl)) (and_then ! (load ! (from ! (stop !)) (look ! 10 refl)) (and_then ! (load ! (from ! (stop !)) (look ! 24 refl)) (and_then ! (load ! (from ! (stop !)) (look ! 22 refl)) (and_then ! (load ! (from ! (stop !)) (look ! 20 refl)) (no_more !))))))) (λ r-answer-call zs-answer-call l-answer-call is-answer-call e-answer-call. land ! (from ! (stop !)) (init ! 14 refl (answer_typed 𝓛 r-answer-call is-answer-call)) $
-        let decides : (h : List Hold) → Answers (decided seen.denied h call datagram slots).change own reply zs-answer-call r-answer-call = λ h. e-answer-call h slots asked.0.1.looked asked.1.0 in
+        let decides = e-answer-call slots asked.0.1.looked asked.1.0 in
         assigns ! (addr ! (from ! (fld ! refl (hop ! (look_in ! 26 (sub ! 0 refl (whole !))) (stop !))))) (from ! (stop !)) (init ! 8 refl (tt, tt)) $
         assigns ! (agg ! (and_then ! (load ! (from ! (stop !)) (look ! 8 refl)) (and_then ! (load ! (from ! (fld ! refl (stop !))) (look_in ! 26 (sub ! 1 refl (whole !)))) (no_more !)))) (from ! (stop !)) (init ! 6 refl (tt, (tt, (record { fits = room-slots.0 }, tt)))) $
         -- `write_found`

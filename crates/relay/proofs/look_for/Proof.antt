@@ -1,8 +1,8 @@
 -- `relay::look_for` meets its contract: a walk of its MIR, made by tools/rewalk.
 use types.Logic.{Logic}
 use denote.Slice.{shr_slice_vals}
-use Rattle.walk.proofs.Pre.{◌-◌, ftrue, flft, SProp, ent, emp, via, fst∗, id⊢, Lfts, Shares, Fun, tables, yes, Is, owns, plain, slice_val, Room, slice-vals, ShrSlice, shr_slice_Tells, owned, nothing, on_entry, Args, Vals, Triple, cited, says, Stays, stay_none, walk_of, Goes-none, ends_at, walked, stay_none_slice, Goes-none_slice, Ura, length, [], ◌∷◌, List, refl, named, Val, Memory, Routine, Calls, Loops, WpFn, FmC, ‵, ◌⊛◌, ⋆, ◌$◌, ◌∵◌, !, qed, by, move, drop, split, join, fsplit, fjoin, suffices, frame, done, keep, Item, look, init, stop, from, load, returns, enter, alloc1, alloc0, params1, pass1, pass0, free0, and_then, no_more, land}
-use Rattle.walk.proofs.Walk.{ref, asks_none, Of, tokens, calls_value, out, framed_calls, finish}
+use Rattle.walk.proofs.Pre.{◌-◌, ftrue, flft, SProp, ent, id⊢, Lfts, Shares, Fun, tables, yes, Is, owns, plain, slice_val, Room, slice-vals, ShrSlice, shr_slice_Tells, owned, nothing, on_entry, Args, Vals, Triple, cited, says, needs, Stays, stay_none, walk_of, Goes-none, ends_at, walked, stay_none_slice, Goes-none_slice, Ura, length, [], ◌∷◌, List, refl, named, Val, Memory, Routine, Calls, Loops, WpFn, FmC, ‵, ◌⊛◌, ⋆, ◌$◌, ◌∵◌, !, qed, by, move, drop, split, join, fsplit, fjoin, suffices, frame, done, keep, Item, look, init, stop, from, load, returns, enter, alloc1, alloc0, params1, pass1, pass0, free0, and_then, no_more, land}
+use Rattle.walk.proofs.Walk.{ref, shown, asks_none, Of, tokens, calls_value, out, framed_calls, finish}
 use Rattle.walk.proofs.Lends.{calls_shared}
 use Rattle.relay.proofs.Rows.{call_row, call_typed, asking_row, asking_typed, seen_row, seen_typed}
 use Rattle.table.proofs.Rows.{survey_row, survey_typed, wanted_row, wanted_typed}
@@ -28,6 +28,7 @@ use Rattle.decisions.specs.contracts.with_survey as with-survey
 use Rattle.decisions.proofs.with_survey.Symbol as with-survey-def
 use Rattle.decisions.proofs.with_survey.Symbol.{name as #decisions·with-survey}
 use Rattle.decisions.proofs.with_survey.Met as with-survey-thm
+use Rattle.decisions.specs.Inner.{UserFits}
 use Rattle.relay.specs.Inner.{LookedFor}
 use Rattle.relay.proofs.Laws.{looked_for}
 use Rattle.relay.specs.contracts.look_for.Key.{name as #relay·look-for}
@@ -75,8 +76,8 @@ module _ {M : Type 1} {𝓤 : Ura M} (𝓛 : Logic 𝓤) (mem : Memory → SProp
       nothing ! $ owned ! Asking-t.the_row (Is Asking-t.the_row) (asking_row.makes 𝓛) asking _ is-asking $ fjoin ! $ owned ! Call-t.the_row (Is Call-t.the_row) (call_row.makes 𝓛) call _ is_call $ fjoin ! $ move ! (1 ∷ 0 ∷ []) $ fjoin ! $ frame ! $ owned ! Seen-t.the_row (Is Seen-t.the_row) (seen_row.makes 𝓛) r _ is $ done !
 
   module _ (C : Calls 𝓤 H) (Λ : Loops 𝓤 H) (fm : FmC 𝓤 H 𝓛.laws C) (known-wanted-by : Triple 𝓤 (C #decisions·wanted-by) (Of 𝓛 wanted_by.ended (wanted_by.clauses 𝓛 mem run))) (known_look : Triple 𝓤 (C #table·look) (Of 𝓛 look.ended (look.clauses 𝓛 mem run))) (known-with-survey : Triple 𝓤 (C #decisions·with-survey) (Of 𝓛 with-survey.ended (with-survey.clauses 𝓛 mem run))) where
-    walk : Room Slot-t.the_row (length slots) → ent 𝓤 (on_entry 𝓛 look-for.signature κs qs a at) (WpFn 𝓤 H C Λ code.function (slice_val a.0.ptr (length slots) ∷ call_row.val call ∷ asking_row.val asking ∷ []) Post)
-    walk room-slots =
+    walk : Room Slot-t.the_row (length slots) → UserFits call → ent 𝓤 (on_entry 𝓛 look-for.signature κs qs a at) (WpFn 𝓤 H C Λ code.function (slice_val a.0.ptr (length slots) ∷ call_row.val call ∷ asking_row.val asking ∷ []) Post)
+    walk room-slots asked =
         qed 𝓛 ((t0 ⊛ ‵ ftrue) ∷ ‵ (owns (ShrSlice (named 0) κs.0 Slot-t.the_row ∷ Call-t.the_row ∷ Asking-t.the_row ∷ []) a at) ∷ []) ∵
         split ! $ move ! (2 ∷ []) $ fsplit ! $ move ! (1 ∷ []) $ fsplit ! $ drop ! $ fsplit ! $ drop ! $ keep ! (1 ∷ 2 ∷ []) $
         enter ! C Λ code.function (slice_val a.0.ptr (length slots) ∷ call_row.val call ∷ asking_row.val asking ∷ []) _ $
@@ -85,8 +86,8 @@ module _ {M : Type 1} {𝓤 : Ura M} (𝓛 : Logic 𝓤) (mem : Memory → SProp
         -- the references and their tokens first: from here local k stands at 12 - 2 k
         move ! (12 ∷ 13 ∷ []) $
         -- `wanted_by`
-        calls_value ! fm wanted_row (wanted_by.clauses 𝓛 mem run) (λ r. _) (call_row, tt) (call, tt) tt known-wanted-by (is_call, tt) (asks_none 𝓛) (λ r ws. id⊢ 𝓤 _)
-        (and_then ! (load ! (from ! (stop !)) (look ! 9 refl)) (no_more !)) (λ r-wanted-by is-wanted-by e-wanted-by. land ! (from ! (stop !)) (init ! 2 refl (wanted_typed 𝓛 r-wanted-by is-wanted-by)) $
+        calls_value ! fm wanted_row (wanted_by.clauses 𝓛 mem run) (λ r. _) (call_row, (asking_row, tt)) (call, (asking, tt)) tt known-wanted-by (is_call, (is-asking, tt)) (shown 𝓛 asked) (λ r ws. id⊢ 𝓤 _)
+        (and_then ! (load ! (from ! (stop !)) (look ! 9 refl)) (and_then ! (load ! (from ! (stop !)) (look ! 7 refl)) (no_more !))) (λ r-wanted-by is-wanted-by e-wanted-by. land ! (from ! (stop !)) (init ! 2 refl (wanted_typed 𝓛 r-wanted-by is-wanted-by)) $
         -- `look`
         calls_shared ! fm Slot-t.the_row survey_row (look.clauses 𝓛 mem run) (λ r. _) (named 0) a.0.ptr.0 a.0.ptr.1 slots (slice_val a.0.ptr (length slots)) (r-wanted-by, tt) (wanted_row, tt) tt known_look (is-wanted-by, tt) (asks_none 𝓛) (λ r ws. id⊢ 𝓤 _)
         (and_then ! (load ! (from ! (stop !)) (look ! 10 refl)) (and_then ! (load ! (from ! (stop !)) (look ! 2 refl)) (no_more !))) (λ r_look is-look e-look. land ! (from ! (stop !)) (init ! 4 refl (survey_typed 𝓛 r_look is-look)) $
@@ -107,7 +108,7 @@ look_for_spec 𝓤 𝓛 𝓜 𝓡 =
     finish 𝓛 𝓜 𝓡 code.env look-for.ended stayed (Goes-none_slice 𝓛 1 (0 ∷ []) tt (plain (λ _. Slot-t.the_row)) yes, (Goes-none 𝓛 1 (λ _. Call-t.the_row) yes (λ κs x f. refl), (Goes-none 𝓛 1 (λ _. Asking-t.the_row) yes (λ κs x f. refl), tt)))
     (look-for.clauses 𝓛 mem run) #relay·look-for code.function (code.unfolded 𝓤 𝓛.H 𝓜 𝓡)
     (walked 𝓛 look-for.ended stayed (look-for.clauses 𝓛 mem run) (WpFn 𝓤 𝓛.H C Λ code.function) (λ κs. (shr_slice_vals, ((λ x. call_row.val x ∷ []), ((λ x. asking_row.val x ∷ []), tt)))) (λ κs. (shr_slice_Tells (named 0) κs.0 Slot-t.the_row, (call_row.tells, (asking_row.tells, tt))))
-    (λ κs qs bounds a g are. via 𝓤 _ (fst∗ 𝓤 _ (emp 𝓤))
+    (λ κs qs bounds a g are. needs 𝓤 (UserFits a.1.0) _
     (walk 𝓛 mem run κs qs a are.1.0 are.1.1.0 C Λ (framed_calls 𝓛 𝓜 𝓡 code.env)
     (cited 𝓤 𝓛.H (Of 𝓛 wanted_by.ended (wanted_by.clauses 𝓛 mem run)) 𝓜 𝓡 code.env #decisions·wanted-by wanted-by-def.routine code.calls-decisions::wanted-by (wanted-by-thm.met 𝓤 𝓛 𝓜 𝓡))
     (cited 𝓤 𝓛.H (Of 𝓛 look.ended (look.clauses 𝓛 mem run)) 𝓜 𝓡 code.env #table·look look-def.routine code.calls-table::look (look-thm.met 𝓤 𝓛 𝓜 𝓡))

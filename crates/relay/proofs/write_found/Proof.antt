@@ -22,10 +22,10 @@ use Rattle.decisions.specs.contracts.outcome_of as outcome_of_lem
 use Rattle.decisions.proofs.outcome_of.Symbol as outcome-of-def
 use Rattle.decisions.proofs.outcome_of.Symbol.{name as #decisions·outcome-of}
 use Rattle.decisions.proofs.outcome_of.Met as outcome-of-thm
-use Rattle.decisions.specs.contracts.own_place as own-place
-use Rattle.decisions.proofs.own_place.Symbol as own-place-def
-use Rattle.decisions.proofs.own_place.Symbol.{name as #decisions·own-place}
-use Rattle.decisions.proofs.own_place.Met as own-place-thm
+use Rattle.decisions.specs.contracts.place_for as place-for
+use Rattle.decisions.proofs.place_for.Symbol as place-for-def
+use Rattle.decisions.proofs.place_for.Symbol.{name as #decisions·place-for}
+use Rattle.decisions.proofs.place_for.Met as place-for-thm
 use Rattle.decisions.specs.contracts.slot_of as slot_of
 use Rattle.decisions.proofs.slot_of.Symbol as slot-of-def
 use Rattle.decisions.proofs.slot_of.Symbol.{name as #decisions·slot-of}
@@ -82,7 +82,7 @@ module _ {M : Type 1} {𝓤 : Ura M} (𝓛 : Logic 𝓤) (mem : Memory → SProp
       nothing ! $ move ! (2 ∷ 0 ∷ []) $ join ! $ frame ! $
       nothing ! $ owned ! Answer-t.the_row (Is Answer-t.the_row) (answer_row.makes 𝓛) answer _ is-answer $ fjoin ! $ owned ! Seen-t.the_row (Is Seen-t.the_row) (seen_row.makes 𝓛) seen _ is_seen $ fjoin ! $ move ! (1 ∷ 0 ∷ []) $ fjoin ! $ frame ! $ owned ! Outcome-t.the_row (Is Outcome-t.the_row) (outcome_row.makes 𝓛) r _ is $ done !
 
-  module _ (C : Calls 𝓤 H) (Λ : Loops 𝓤 H) (fm : FmC 𝓤 H 𝓛.laws C) (known-writes-none : Triple 𝓤 (C #decisions·writes-none) (Of 𝓛 writes-none.ended (writes-none.clauses 𝓛 mem run))) (known-outcome-of : Triple 𝓤 (C #decisions·outcome-of) (Of 𝓛 outcome_of_lem.ended (outcome_of_lem.clauses 𝓛 mem run))) (known-own-place : Triple 𝓤 (C #decisions·own-place) (Of 𝓛 own-place.ended (own-place.clauses 𝓛 mem run))) (known-slot-of : Triple 𝓤 (C #decisions·slot-of) (Of 𝓛 slot_of.ended (slot_of.clauses 𝓛 mem run))) (known-put-slot : Triple 𝓤 (C #table·put-slot) (Of 𝓛 put-slot.ended (put-slot.clauses 𝓛 mem run))) where
+  module _ (C : Calls 𝓤 H) (Λ : Loops 𝓤 H) (fm : FmC 𝓤 H 𝓛.laws C) (known-writes-none : Triple 𝓤 (C #decisions·writes-none) (Of 𝓛 writes-none.ended (writes-none.clauses 𝓛 mem run))) (known-outcome-of : Triple 𝓤 (C #decisions·outcome-of) (Of 𝓛 outcome_of_lem.ended (outcome_of_lem.clauses 𝓛 mem run))) (known-place-for : Triple 𝓤 (C #decisions·place-for) (Of 𝓛 place-for.ended (place-for.clauses 𝓛 mem run))) (known-slot-of : Triple 𝓤 (C #decisions·slot-of) (Of 𝓛 slot_of.ended (slot_of.clauses 𝓛 mem run))) (known-put-slot : Triple 𝓤 (C #table·put-slot) (Of 𝓛 put-slot.ended (put-slot.clauses 𝓛 mem run))) where
     walk : Room Slot-t.the_row (length slots) → (answer.writes ≡ true → place_in seen < length slots) → ent 𝓤 (on_entry 𝓛 write-found.signature κs qs a at) (WpFn 𝓤 H C Λ code.function (slice_val a.0.ptr (length slots) ∷ seen_row.val seen ∷ answer_row.val answer ∷ []) Post)
     walk room-slots asked =
         qed 𝓛 ((t0 ⊛ ‵ ftrue) ∷ ‵ (owns (MutSlice (named 0) κs.0 Slot-t.the_row ∷ Seen-t.the_row ∷ Answer-t.the_row ∷ []) a at) ∷ []) ∵
@@ -106,20 +106,20 @@ module _ {M : Type 1} {𝓤 : Ura M} (𝓛 : Logic 𝓤) (mem : Memory → SProp
         let written = not-false answer.writes (sym e-writes-none ∙ fails_false _ failed) in
         assigns ! (addr ! (from ! (fld ! refl (hop ! (look_in ! 18 (sub ! 0 refl (whole !))) (stop !))))) (from ! (stop !)) (init ! 8 refl (tt, tt)) $
         assigns ! (agg ! (and_then ! (load ! (from ! (stop !)) (look ! 8 refl)) (and_then ! (load ! (from ! (fld ! refl (stop !))) (look_in ! 18 (sub ! 1 refl (whole !)))) (no_more !)))) (from ! (stop !)) (init ! 6 refl (tt, (tt, (record { fits = room-slots.0 }, tt)))) $
-        -- `own_place`
-        calls_value ! fm (uint_row w64) (own-place.clauses 𝓛 mem run) (λ r. _) (seen_row, tt) (seen, tt) tt known-own-place (is_seen, tt) (asks_none 𝓛) (λ r ws. id⊢ 𝓤 _)
-        (and_then ! (load ! (from ! (stop !)) (look ! 17 refl)) (no_more !)) (λ r-own-place is-own-place e-own-place. land ! (from ! (stop !)) (init ! 4 refl (tt, record { fits = is-own-place.1 })) $
+        -- `place_for`
+        calls_value ! fm (uint_row w64) (place-for.clauses 𝓛 mem run) (λ r. _) (seen_row, tt) (seen, tt) tt known-place-for (is_seen, tt) (asks_none 𝓛) (λ r ws. id⊢ 𝓤 _)
+        (and_then ! (load ! (from ! (stop !)) (look ! 17 refl)) (no_more !)) (λ r-place-for is-place-for e-place-for. land ! (from ! (stop !)) (init ! 4 refl (tt, record { fits = is-place-for.1 })) $
         -- `slot_of`
         calls_value ! fm slot_row (slot_of.clauses 𝓛 mem run) (λ r. _) (answer_row, tt) (answer, tt) tt known-slot-of (is-answer, tt) (asks_none 𝓛) (λ r ws. id⊢ 𝓤 _)
         (and_then ! (load ! (from ! (stop !)) (look ! 15 refl)) (no_more !)) (λ r-slot-of is-slot-of e-slot-of. land ! (from ! (stop !)) (init ! 2 refl (slot_typed 𝓛 r-slot-of is-slot-of)) $
         -- `put_slot`
-        calls_lent ! fm Slot-t.the_row unit_row (put-slot.clauses 𝓛 mem run) (λ r zs. _) (named 0) a.0.ptr.0 a.0.ptr.1 slots (slice_val a.0.ptr (length slots)) (λ ν. (r-own-place, (r-slot-of, tt))) (λ ν. (uint_row w64, (slot_row, tt))) (λ ν δ. tt) known-put-slot (λ ν. ((refl, is-own-place.1), (is-slot-of, tt))) (λ ν δ. (shown 𝓛 (subst (λ (k : ℕ). k < length slots) (sym e-own-place) (asked written)))) (λ ν δ r ws. id⊢ 𝓤 _)
+        calls_lent ! fm Slot-t.the_row unit_row (put-slot.clauses 𝓛 mem run) (λ r zs. _) (named 0) a.0.ptr.0 a.0.ptr.1 slots (slice_val a.0.ptr (length slots)) (λ ν. (r-place-for, (r-slot-of, tt))) (λ ν. (uint_row w64, (slot_row, tt))) (λ ν δ. tt) known-put-slot (λ ν. ((refl, is-place-for.1), (is-slot-of, tt))) (λ ν δ. (shown 𝓛 (subst (λ (k : ℕ). k < length slots) (sym e-place-for) (asked written)))) (λ ν δ r ws. id⊢ 𝓤 _)
         (λ ν δ. (and_then ! (load ! (from ! (stop !)) (look ! 6 refl)) (and_then ! (load ! (from ! (stop !)) (look ! 4 refl)) (and_then ! (load ! (from ! (stop !)) (look ! 2 refl)) (no_more !))))) (λ r-put-slot zs-put-slot l-put-slot is-put-slot e-put-slot. land ! (from ! (stop !)) (init ! 10 refl (tt, tt)) $
         -- `outcome_of`
         calls_value ! fm outcome_row (outcome_of_lem.clauses 𝓛 mem run) (λ r. _) (answer_row, tt) (answer, tt) tt known-outcome-of (is-answer, tt) (asks_none 𝓛) (λ r ws. id⊢ 𝓤 _)
         (and_then ! (load ! (from ! (stop !)) (look ! 15 refl)) (no_more !)) (λ r-outcome-of-2 is-outcome-of-2 e-outcome-of-2. land ! (from ! (stop !)) (init ! 20 refl (outcome_typed 𝓛 r-outcome-of-2 is-outcome-of-2)) $
         returns ! (look ! 20 refl) $ out ! 20 refl refl $ out ! 18 refl refl $ out ! 16 refl refl $ out ! 14 refl refl $ out ! 12 refl refl $ out ! 10 refl refl $ out ! 8 refl refl $ out ! 6 refl refl $ out ! 4 refl refl $ out ! 2 refl refl $ free0 ! $
-        keep ! (0 ∷ 1 ∷ []) $ by ! (exits r-outcome-of-2 zs-put-slot (one_back slots seen answer e-writes-none e-outcome-of-2 (fails_false _ failed) e-own-place e-slot-of e-put-slot) l-put-slot is-outcome-of-2)))))))))))))))))
+        keep ! (0 ∷ 1 ∷ []) $ by ! (exits r-outcome-of-2 zs-put-slot (one_back slots seen answer e-writes-none e-outcome-of-2 (fails_false _ failed) e-place-for e-slot-of e-put-slot) l-put-slot is-outcome-of-2)))))))))))))))))
 
 pub write_found_spec : {M : Type 1} → stated.statement M
 unfolding code.routine
@@ -136,7 +136,7 @@ write_found_spec 𝓤 𝓛 𝓜 𝓡 =
     (walk 𝓛 mem run κs qs a are.1.0 are.1.1.0 C Λ (framed_calls 𝓛 𝓜 𝓡 code.env)
     (cited 𝓤 𝓛.H (Of 𝓛 writes-none.ended (writes-none.clauses 𝓛 mem run)) 𝓜 𝓡 code.env #decisions·writes-none writes-none-def.routine code.calls-decisions::writes-none (writes-none-thm.met 𝓤 𝓛 𝓜 𝓡))
     (cited 𝓤 𝓛.H (Of 𝓛 outcome_of_lem.ended (outcome_of_lem.clauses 𝓛 mem run)) 𝓜 𝓡 code.env #decisions·outcome-of outcome-of-def.routine code.calls-decisions::outcome_of_lem (outcome-of-thm.met 𝓤 𝓛 𝓜 𝓡))
-    (cited 𝓤 𝓛.H (Of 𝓛 own-place.ended (own-place.clauses 𝓛 mem run)) 𝓜 𝓡 code.env #decisions·own-place own-place-def.routine code.calls-decisions::own-place (own-place-thm.met 𝓤 𝓛 𝓜 𝓡))
+    (cited 𝓤 𝓛.H (Of 𝓛 place-for.ended (place-for.clauses 𝓛 mem run)) 𝓜 𝓡 code.env #decisions·place-for place-for-def.routine code.calls-decisions::place-for (place-for-thm.met 𝓤 𝓛 𝓜 𝓡))
     (cited 𝓤 𝓛.H (Of 𝓛 slot_of.ended (slot_of.clauses 𝓛 mem run)) 𝓜 𝓡 code.env #decisions·slot-of slot-of-def.routine code.calls-decisions::slot-of (slot-of-thm.met 𝓤 𝓛 𝓜 𝓡))
     (cited 𝓤 𝓛.H (Of 𝓛 put-slot.ended (put-slot.clauses 𝓛 mem run)) 𝓜 𝓡 code.env #table·put-slot put-slot-def.routine code.calls-table::put-slot (put-slot-thm.met 𝓤 𝓛 𝓜 𝓡))
     are.0.0.1)))

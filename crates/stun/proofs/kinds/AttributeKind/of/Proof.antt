@@ -78,22 +78,14 @@ returns-18 c = rw c.match.keys18
 
 returns-19 : tie.Need-returns-19
 unfolding attribute_kind_of
-returns-19 c = rw c.match.keys19
+returns-19 c = rw (lookup-none _ attribute_kinds _ c.before.match.rest, le-leb _ _ c.if1.true)
 
 returns-20 : tie.Need-returns-20
 unfolding attribute_kind_of
-returns-20 c = rw c.match.keys20
-
-returns-21 : tie.Need-returns-21
-unfolding attribute_kind_of
-returns-21 c = rw (lookup-none _ attribute_kinds _ c.before.match.rest, le-leb _ _ c.if1.true)
-
-returns-22 : tie.Need-returns-22
-unfolding attribute_kind_of
-returns-22 c = rw (lookup-none _ attribute_kinds _ c.before.match.rest, lt-leb _ _ c.if1.false)
+returns-20 c = rw (lookup-none _ attribute_kinds _ c.before.match.rest, lt-leb _ _ c.if1.false)
 
 pub of_spec : {M : Type 1} → statement M
 of_spec =
     tie.close
     (tie.spec returns returns_2 returns_3 returns_4 returns-5 returns-6 returns-7 returns-8 returns-9 returns-10 returns-11 returns-12
-    returns-13 returns-14 returns-15 returns-16 returns-17 returns-18 returns-19 returns-20 returns-21 returns-22)
+    returns-13 returns-14 returns-15 returns-16 returns-17 returns-18 returns-19 returns-20)

@@ -1,2 +1,0 @@
-pub mod Hold
-pub mod Inner
