@@ -1,24 +1,26 @@
 // Addresses, transport addresses, 5-tuples and transaction ids, with the tests of their equality.
+#![tactic(auto)]
+
 ghost use Rattle.std.specs.Prelude.{◌≡◌};
 ghost use Rattle.address.specs.Address.{same_address, same_transport_address, same_five_tuple, same_transaction_id};
 
 use choice::both;
 
 // An IP address: IPv4 in one word, IPv6 in four, the highest first.
-#[derive(Drop)]
+#[derive(Clone, Copy)]
 pub enum Address {
     V4(u32),
     V6(u32, u32, u32, u32),
 }
 
 // A transport address: what a client, a server or a peer is reached at.
-#[derive(Drop)]
+#[derive(Clone, Copy)]
 pub struct TransportAddress {
     pub address: Address,
     pub port: u16,
 }
 
-#[derive(Drop)]
+#[derive(Clone, Copy)]
 pub struct FiveTuple {
     pub client: TransportAddress,
     pub server: TransportAddress,
@@ -26,7 +28,7 @@ pub struct FiveTuple {
 }
 
 // The 96 bits that tie a response to its request, in three words.
-#[derive(Drop)]
+#[derive(Clone, Copy)]
 pub struct TransactionId {
     pub high: u32,
     pub middle: u32,

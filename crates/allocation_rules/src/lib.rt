@@ -1,4 +1,6 @@
 // Allocate and Refresh, by value: from a lent datagram and what the look over the table found, the outcome, the slot and the reply.
+#![tactic(auto)]
+
 ghost use Rattle.std.specs.Prelude.{◌≡◌, ◌≤◌, ◌^◌, length};
 ghost use Rattle.rules.specs.Inner.{Gives, Answers};
 ghost use Rattle.allocation_rules.specs.Allocations.{repeats, allocate_code, allocated, allocate_reply, allocate, refresh_code, renewed, refreshed, refresh};
@@ -18,7 +20,7 @@ pub mod lifetimes;
 pub mod ports;
 
 // What Allocate asks of the whole table.
-#[derive(Drop)]
+#[derive(Clone, Copy)]
 pub struct Room {
     // The 5-tuple has a live slot.
     pub own: bool,

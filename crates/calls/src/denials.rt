@@ -1,19 +1,24 @@
 // The file of denied prefixes that the program's argument names, read before the first line. Where it can't be used, `R` and the number of the
 // refusal, or `E`, is the only output.
-ghost use Rattle.std.specs.Prelude.{◌≤◌, length};
+ghost use Rattle.std.specs.Prelude.{◌≡◌, ◌≤◌, length};
 
-use libc::{STDERR_FILENO, STDOUT_FILENO};
+use crate::read_behind;
 use state::{Bookkeeping, deny, fresh_bookkeeping};
+use std::env::{Env, FillError};
+use std::fs::File;
+use std::io;
+use std::io::Read;
+use std::rt::Files;
 
 // Whether lines are answered, and what is kept beside the slots at first.
-#[derive(Drop)]
+#[derive(Clone, Copy)]
 pub struct Start {
     pub ready: bool,
     pub bookkeeping: Bookkeeping,
 }
 
 // Whether a file was read to its end, and how many bytes it has.
-#[derive(Drop)]
+#[derive(Clone, Copy)]
 pub struct ReadFile {
     pub whole: bool,
     pub length: usize,
@@ -34,47 +39,80 @@ fn fresh_start(ready: bool) -> Start {
 }
 
 // `E` is the only output, and the reason stands on standard error.
-fn unreadable(reason: &[u8]) -> Start {
-    io::write_all(STDERR_FILENO, reason);
-    io::write_all(STDOUT_FILENO, b"E\n");
+fn unreadable(rt: &(impl Print + Eprint), reason: &str) -> Start {
+    let _ = rt.eprintln(reason);
+    let _ = rt.println("E");
     fresh_start(false)
 }
 
-fn write_refusal(number: u8) {
-    io::write_all(STDOUT_FILENO, b"R\t");
-    io::print_decimal(STDOUT_FILENO, number as u64);
-    io::write_all(STDOUT_FILENO, b"\n");
+fn write_refusal(rt: &impl Print, number: u8) {
+    let _ = println!(rt; "R\t{number}");
+}
+
+// Names the file on standard error, and says what failed.
+fn tell(rt: &impl Eprint, path: &str, error: io::Error) {
+    let _ = eprintln!(rt; "{path}: {error}");
+}
+
+fn no_file() -> ReadFile
+    ensures { result.length ≡ 0 }
+{
+    ReadFile {
+        whole: false,
+        length: 0,
+    }
+}
+
+// Reads until the input is full, or no more comes; how many bytes came.
+fn read_full<F: Read>(file: &mut F, input: &mut [u8]) -> usize
+    ensures { result ≤ length input.old }
+{
+    let mut done = 0;
+    while done < input.len() {
+        let got = read_behind(file, input, done);
+        if got == 0 {
+            break;
+        }
+        done += got;
+    }
+    done
 }
 
 // The file's bytes, put at the front of the input. Where no more are left in the file, and none failed to be read, the next read has none.
-fn read_file(path: &[u8], input: &mut [u8]) -> ReadFile
+fn read_open<F: Read>(rt: &impl Eprint, path: &str, file: &mut F, input: &mut [u8]) -> ReadFile
     ensures { result.length ≤ length input.old }
 {
-    let file = os::open_read(path);
-    if file < 0 {
-        os::fail(path);
-        return ReadFile {
-            whole: false,
-            length: 0,
-        };
-    }
-    let length = io::read_full(file, input);
+    let length = read_full(file, input);
     let mut next = [0u8; 1];
-    let got = libc::read(file, &mut next);
-    if got < 0 {
-        os::fail(path);
+    match file.read(&mut next) {
+        Ok(got) => ReadFile {
+            whole: got == 0,
+            length,
+        },
+        Err(error) => {
+            tell(rt, path, error);
+            no_file()
+        }
     }
-    ReadFile {
-        whole: got == 0,
-        length,
+}
+
+fn read_file(rt: &(impl Files + Eprint), path: &str, input: &mut [u8]) -> ReadFile
+    ensures { result.length ≤ length input.old }
+{
+    match File::open(rt, path) {
+        Ok(mut file) => read_open(rt, path, &mut file, input),
+        Err(error) => {
+            tell(rt, path, error);
+            no_file()
+        }
     }
 }
 
 // The relay with the prefixes of a text.
-fn with_denied(text: &[u8]) -> Start {
+fn with_denied(rt: &impl Print, text: &[u8]) -> Start {
     let made = deny(fresh_bookkeeping(), text);
     if made.number != 0 {
-        write_refusal(made.number);
+        write_refusal(rt, made.number);
         return fresh_start(false);
     }
     let bookkeeping = made.bookkeeping;
@@ -84,27 +122,43 @@ fn with_denied(text: &[u8]) -> Start {
     }
 }
 
-fn with_file(path: &[u8], input: &mut [u8]) -> Start {
-    let read = read_file(path, input);
+fn with_file(rt: &(impl Files + Print + Eprint), path: &str, input: &mut [u8]) -> Start {
+    let read = read_file(rt, path, input);
     let length = read.length;
     if !read.whole {
         return unreadable(
-            b"calls: the denied prefixes can't be read, or have more than 65,536 bytes\n",
+            rt,
+            "calls: the denied prefixes can't be read, or have more than 65,536 bytes",
         );
     }
-    with_denied(&input[..length])
+    with_denied(rt, &input[..length])
+}
+
+// A path is UTF-8 text.
+fn with_path(rt: &(impl Files + Print + Eprint), path: &[u8], input: &mut [u8]) -> Start {
+    match str::from_utf8(path) {
+        Ok(path) => with_file(rt, path, input),
+        Err(_) => unreadable(rt, "calls: the file's name is no UTF-8 text"),
+    }
+}
+
+fn has_second_argument(rt: &impl Env) -> bool {
+    let mut second = [0u8; 1];
+    match rt.arg(2, &mut second) {
+        Err(FillError::NotPresent) => false,
+        _ => true,
+    }
 }
 
 // The relay at the start. The input is used for the file's bytes.
-pub(crate) fn begin(input: &mut [u8]) -> Start {
-    let arguments = os::arg_count();
-    if arguments < 2 {
-        return fresh_start(true);
+pub(crate) fn begin(rt: &(impl Env + Files + Print + Eprint), input: &mut [u8]) -> Start {
+    if has_second_argument(rt) {
+        return unreadable(rt, "calls: takes one argument, a file of denied prefixes");
     }
-    if 2 < arguments {
-        return unreadable(b"calls: takes one argument, a file of denied prefixes\n");
+    let mut path = [0u8; 4096];
+    match rt.arg(1, &mut path) {
+        Ok(size) => with_path(rt, &path[..size], input),
+        Err(FillError::NotPresent) => fresh_start(true),
+        Err(FillError::TooLong) => unreadable(rt, "calls: the file's name is too long"),
     }
-    let mut path = io::buffer();
-    let size = os::arg(1, &mut path);
-    with_file(&path[..size], input)
 }

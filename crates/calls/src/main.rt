@@ -1,19 +1,22 @@
 // The call program: answers each line of its standard input as soon as it has it, and lists at the end. It reads, finds the lines and
 // writes; what a line is answered with is `script`'s, and the listing is `listing`'s. The answers to the lines that came with one read are
 // written together, before it reads again. An argument names a file of denied prefixes, which is read before the first line.
+#![tactic(auto)]
+
 mod denials;
 
 ghost use Rattle.std.specs.Prelude.{◌+◌, ◌<◌, ◌≤◌, leb, length, drop, ◌++◌, ◌≡◌};
-ghost use Rattle.bytes.specs.Bytes.{index_of, slice};
+ghost use Rattle.std.proofs.Math.Seq.{slice};
+ghost use Rattle.text.specs.Scan.{index_of};
 ghost use Rattle.listing.specs.Listing.{listing};
 ghost use Rattle.listing.specs.Inner.{length_of};
 
 use denials::{begin, is_ready, kept_by};
-use libc::{STDIN_FILENO, STDOUT_FILENO};
 use listing::{Listed, list};
 use script::run_line;
 use slot::{Slot, fresh_slot};
 use state::Bookkeeping;
+use std::io::{Read, Write};
 use text::scan::find_far;
 
 // One byte more than a line may have: of a longer line no more is kept.
@@ -25,7 +28,7 @@ const ANSWER: usize = 4096;
 // A line of the input, from `start` to `line_end`; what of the input is read and not answered yet, from `next` to `end`; and how many bytes
 // of answers are gathered and not written yet. There is no line at the end of the input, where nothing is left, nor where answers couldn't
 // be written.
-#[derive(Drop)]
+#[derive(Clone, Copy)]
 struct Window {
     start: usize,
     line_end: usize,
@@ -86,13 +89,14 @@ fn copy_within(buffer: &mut [u8], from: usize, to: usize, n: usize)
 // ---- What is read
 
 // Reads once, behind what is kept: how many bytes came. None at the end, and none where it fails.
-fn read_behind(input: &mut [u8], kept: usize) -> usize
+fn read_behind<R: Read>(reader: &mut R, input: &mut [u8], kept: usize) -> usize
     requires { kept ≤ length input.old }
     ensures { kept + result ≤ length input.old }
 {
-    let behind = &mut input[kept..];
-    let got = libc::read(STDIN_FILENO, behind);
-    io::count(got, behind)
+    match reader.read(&mut input[kept..]) {
+        Ok(got) => got,
+        Err(_) => 0,
+    }
 }
 
 // Of what is left of the input, how much is kept while more is read.
@@ -103,7 +107,7 @@ fn kept_of(left: usize) -> usize
 }
 
 // Reads until there is a whole line. There is none from `first` to `last`; at the end of the input these bytes are the last line.
-fn read_line(input: &mut [u8], first: usize, last: usize) -> Window
+fn read_line<R: Read>(reader: &mut R, input: &mut [u8], first: usize, last: usize) -> Window
     requires { (first ≤ last) × ((last ≤ length input.old) × (first + index_of 10 (slice first last input.old) ≡ last)) }
 {
     let mut start = first;
@@ -112,7 +116,7 @@ fn read_line(input: &mut [u8], first: usize, last: usize) -> Window
     while 0 < turns {
         let kept = kept_of(end - start);
         copy_within(input, start, 0, kept);
-        let got = read_behind(input, kept);
+        let got = read_behind(reader, input, kept);
         if got == 0 {
             return Window {
                 start: 0,
@@ -137,11 +141,11 @@ fn read_line(input: &mut [u8], first: usize, last: usize) -> Window
 // ---- What is written
 
 // Writes the first n bytes, and answers whether they were written.
-fn write_front(output: &[u8], n: usize) -> bool {
+fn write_front<W: Write>(writer: &mut W, output: &[u8], n: usize) -> bool {
     if output.len() < n {
         return false;
     }
-    io::write_all(STDOUT_FILENO, &output[..n])
+    writer.write_all(&output[..n]).is_ok() && writer.flush().is_ok()
 }
 
 // Whether an answer of n bytes has room behind those that are gathered.
@@ -162,11 +166,11 @@ fn has_room(output: &[u8], gathered: usize, n: usize) -> bool
 }
 
 // Writes what is gathered, and answers whether it was written.
-fn write_gathered(output: &[u8], gathered: usize) -> bool {
+fn write_gathered<W: Write>(writer: &mut W, output: &[u8], gathered: usize) -> bool {
     if output.len() < ANSWER {
         return false;
     }
-    write_front(&output[ANSWER..], gathered)
+    write_front(writer, &output[ANSWER..], gathered)
 }
 
 // The answer, the first n bytes of the output, is put behind those that are gathered.
@@ -190,7 +194,13 @@ fn gather(output: &mut [u8], n: usize, window: Window) -> Window {
 
 // The line after this one. What is gathered is written before input is read, and where it leaves no room for one more answer. Input is read
 // only where no whole line is left of it.
-fn next_line(input: &mut [u8], output: &[u8], last: Window) -> Window {
+fn next_line<R: Read, W: Write>(
+    reader: &mut R,
+    writer: &mut W,
+    input: &mut [u8],
+    output: &[u8],
+    last: Window,
+) -> Window {
     let start = last.next;
     let end = last.end;
     let gathered = last.gathered;
@@ -206,13 +216,13 @@ fn next_line(input: &mut [u8], output: &[u8], last: Window) -> Window {
             return whole_line(start, newline, end, gathered);
         }
     }
-    if !write_gathered(output, gathered) {
+    if !write_gathered(writer, output, gathered) {
         return lost_window();
     }
     if newline < end {
         return whole_line(start, newline, end, 0);
     }
-    read_line(input, start, end)
+    read_line(reader, input, start, end)
 }
 
 fn is_line(window: Window) -> bool {
@@ -233,14 +243,16 @@ fn line_end(window: Window) -> usize {
 }
 
 // Reads the next line and answers it.
-fn answer_next(
+fn answer_next<R: Read, W: Write>(
+    reader: &mut R,
+    writer: &mut W,
     slots: &mut [Slot],
     bookkeeping: &mut Bookkeeping,
     input: &mut [u8],
     output: &mut [u8],
     last: Window,
 ) -> Window {
-    let window = next_line(input, output, last);
+    let window = next_line(reader, writer, input, output, last);
     if !is_line(window) {
         return window;
     }
@@ -264,7 +276,9 @@ fn turns_after(turns: u64, window: Window) -> u64
 }
 
 // Answers every line; whether the input came to its end with every answer written.
-fn serve(
+fn serve<R: Read, W: Write>(
+    reader: &mut R,
+    writer: &mut W,
     slots: &mut [Slot],
     bookkeeping: &mut Bookkeeping,
     input: &mut [u8],
@@ -273,7 +287,7 @@ fn serve(
     let mut window = first_window();
     let mut turns = u64::MAX;
     while 0 < turns {
-        window = answer_next(slots, bookkeeping, input, output, window);
+        window = answer_next(reader, writer, slots, bookkeeping, input, output, window);
         let left = turns_after(turns, window);
         turns = left;
     }
@@ -304,24 +318,31 @@ fn shown_of(length: usize, is_served: bool) -> usize {
 }
 
 // The listing at the end.
-fn write_listing(slots: &[Slot], clock: u64, is_served: bool)
+fn write_listing<W: Write>(writer: &mut W, slots: &[Slot], clock: u64, is_served: bool)
     requires { length slots.now ≡ 64 }
 {
     let mut text = [0u8; 73856];
     let size = whole_listing(slots, clock, &mut text);
-    write_front(&text, shown_of(size, is_served));
+    write_front(writer, &text, shown_of(size, is_served));
 }
 
-fn main() {
+fn main(rt: HostRuntime) {
     let slot = fresh_slot();
     let mut slots = [slot; 64];
     let mut input = [0u8; 65536];
-    let start = begin(&mut input);
+    let start = begin(&rt, &mut input);
     if !is_ready(start) {
         return;
     }
     let mut bookkeeping = kept_by(start);
     let mut output = [0u8; 36864];
-    let is_served = serve(&mut slots, &mut bookkeeping, &mut input, &mut output);
-    write_listing(&slots, bookkeeping.clock, is_served);
+    let is_served = serve(
+        &mut rt.stdin(),
+        &mut rt.stdout(),
+        &mut slots,
+        &mut bookkeeping,
+        &mut input,
+        &mut output,
+    );
+    write_listing(&mut rt.stdout(), &slots, bookkeeping.clock, is_served);
 }

@@ -1,4 +1,6 @@
 // Choices by tests. The definitions in specs/ are what every layer's rules are written with; the laws about them are in proofs/.
+#![tactic(auto)]
+
 ghost use Rattle.std.specs.Prelude.{◌≡◌};
 ghost use Rattle.choice.specs.Choice.{both};
 

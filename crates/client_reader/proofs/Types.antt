@@ -57,7 +57,7 @@ types_back [] (suc count) r l h = absurd (not-suc-le-zero l)
 types_back (t ∷ types) (suc count) r l h =
     ap₂ (λ (x : ℕ) (rest : List ℕ). x ∷ rest)
     (rw append_assoc (num-written 2 t (types_bytes (take count types) ++ r) (omega (arith, h 0))))
-    (rw append_assoc (types_append (bytes_of 2 t) (types_bytes (take count types) ++ r) 0 count)
+    (types_append (bytes_of 2 t) (types_bytes (take count types) ++ r) 0 count
     ∙ types_back types count r (omega arith) (λ i. h (suc i)))
 
 -- ---- All below a bound

@@ -1,6 +1,8 @@
 // The second reader, for clients: the fields of a success response, an error response, a Data indication or ChannelData, exactly
 // where writing those fields makes the bytes. The fields are read at their places. A response is then written and compared; of the
 // messages that carry data, what stands around the data is tested, so that data is not copied.
+#![tactic(auto)]
+
 mod data;
 mod responses;
 
@@ -13,7 +15,7 @@ use slot::channels::is_channel_number;
 use stun::kinds::{MessageKind, Method};
 use wire::u16_at;
 
-#[derive(Drop)]
+#[derive(Clone, Copy)]
 pub enum Message {
     AllocateSuccess {
         id: TransactionId,
@@ -60,7 +62,7 @@ pub enum Message {
 }
 
 // What was read; the types are all 0 but for the first count of a 420.
-#[derive(Drop)]
+#[derive(Clone, Copy)]
 pub struct ReadMessage {
     pub message: Message,
     pub types: [u16; 16],

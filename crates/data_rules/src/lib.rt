@@ -1,4 +1,6 @@
 // Send, ChannelData and a peer's datagram: data passes, or is dropped with its cause, and no slot is changed.
+#![tactic(auto)]
+
 ghost use Rattle.std.specs.Prelude.{◌≡◌, ◌≤◌, length};
 ghost use Rattle.messages.specs.Inner.{Sent};
 ghost use Rattle.rules.specs.Change.{outcome_of};

@@ -9,7 +9,6 @@ use lib.ListN.{length, get_or}
 use lib.Seq.{ext_get_or}
 use Rattle.wire.specs.Wire.{num}
 use Rattle.stun.specs.declared.kinds.Class.{Class}
-use Rattle.stun.specs.declared.kinds.Class.TheVariants as Class
 use Rattle.stun.specs.Kinds.{message_kind_of}
 use Rattle.stun.specs.AttributeNumbers as attribute
 use Rattle.stun.specs.Message.{sorted, is_well_formed, attributes, first_of, channel_data_of}
@@ -18,7 +17,6 @@ use Rattle.choice.specs.Choice.{pick, any}
 use Rattle.choice.proofs.Laws.{chosen}
 use Rattle.slot.specs.declared.Slot.{Slot}
 use Rattle.slot.specs.declared.Found.{Found}
-use Rattle.slot.specs.declared.Found.TheVariants.{Nothing}
 use Rattle.slot.specs.Inner.{held_in}
 use Rattle.slot.specs.Search.{find, has, at_or}
 use Rattle.slot.specs.Slot.{fresh_slot, holds_port}
@@ -31,7 +29,6 @@ use Rattle.rules.specs.declared.answer.Answer.{Answer}
 use Rattle.rules.specs.declared.answer.Outcome.{Outcome}
 use Rattle.rules.specs.declared.answer.Outcome.TheVariants.{DroppedOther}
 use Rattle.decisions.specs.declared.client.Asked.{Asked}
-use Rattle.decisions.specs.declared.client.Asked.TheVariants as Asked
 use Rattle.allocation_rules.specs.declared.Room.{Room}
 use Rattle.rules.specs.Change.{other_cause, Out, dropped, Change, keep, write, outcome_of, reply_after}
 use Rattle.rules.specs.Inner.{Gives, Answers}

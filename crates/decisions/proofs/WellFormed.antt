@@ -1,4 +1,4 @@
--- What a is_well_formed_lem datagram has.
+-- What a well-formed datagram has.
 use Prim.Native.Nat.{ℕ, ◌-◌, ◌%◌, ◌≤◌}
 use mathlib.Core.Path.{◌≡◌, refl}
 use mathlib.Core.Bool.{Bool, true, false, ◌&&◌}

@@ -3,7 +3,6 @@ use Rattle.std.specs.Prelude.{ℕ, List}
 use Rattle.wire.specs.Wire.{num}
 use Rattle.choice.specs.Choice.{pick}
 use Rattle.stun.specs.declared.kinds.Class.{Class}
-use Rattle.stun.specs.declared.kinds.Class.TheVariants as Class
 use Rattle.stun.specs.declared.kinds.Method.{Method}
 use Rattle.stun.specs.declared.kinds.Method.TheVariants.{Allocate, Refresh, CreatePermission, ChannelBind}
 use Rattle.stun.specs.declared.kinds.MessageKind.{MessageKind}
@@ -11,7 +10,6 @@ use Rattle.stun.specs.declared.kinds.MessageKind.TheVariants as Kind
 use Rattle.stun.specs.Kinds.{message_kind_of}
 use Rattle.stun.specs.Message.{sorted, is_well_formed}
 use Rattle.decisions.specs.declared.client.Asked.{Asked}
-use Rattle.decisions.specs.declared.client.Asked.TheVariants as Asked
 
 abbrev pub request_asks : Method → Asked
 request_asks Allocate = Asked.Allocate

@@ -7,7 +7,6 @@ use Rattle.slot.specs.Search.{find, has, at_or}
 use Rattle.slot.specs.Slot.{fresh_slot, holds, holds_user, holds_port}
 use Rattle.table.specs.Table.{in_slot, count, lapsed}
 use Rattle.decisions.specs.declared.client.Asked.{Asked}
-use Rattle.decisions.specs.declared.client.Asked.TheVariants as Asked
 use Rattle.rules.specs.declared.requests.ClientCall.{ClientCall}
 use Rattle.allocation_rules.specs.declared.Room.{Room}
 use Rattle.rules.specs.Change.{other_cause, dropped, Change, keep}

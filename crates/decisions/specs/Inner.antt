@@ -6,14 +6,12 @@ use Rattle.slot.specs.declared.Found.{Found}
 use Rattle.slot.specs.Search.{at_or}
 use Rattle.slot.specs.Slot.{fresh_slot}
 use Rattle.table.specs.declared.keys.Key.{Key}
-use Rattle.table.specs.declared.keys.Key.TheVariants as Key
 use Rattle.table.specs.declared.keys.Wanted.{Wanted}
 use Rattle.table.specs.declared.surveys.Survey.{Survey}
 use Rattle.table.specs.Inner.{place_of, Looked}
 use Rattle.rules.specs.declared.answer.Answer.{Answer}
 use Rattle.rules.specs.declared.answer.Outcome.{Outcome}
 use Rattle.decisions.specs.declared.client.Asked.{Asked}
-use Rattle.decisions.specs.declared.client.Asked.TheVariants as Asked
 use Rattle.rules.specs.Change.{Change}
 use Rattle.rules.specs.Inner.{Answers}
 use Rattle.decisions.specs.Client.{asked_by}
@@ -84,14 +82,14 @@ abbrev pub saw : Asking → Survey → Seen
 saw asking survey = record { asked = asking.asked; denied = asking.denied; survey = survey }
 
 -- the slot that is written
-abbrev pub placeFor : Asked → Survey → Found
-placeFor asked survey = pick (allocates asked) survey.free survey.own
+abbrev pub place_for : Asked → Survey → Found
+place_for asked survey = pick (allocates asked) survey.free survey.own
 
 abbrev pub unwritten : Outcome → Slot → Answer
 unwritten outcome slot = record { outcome = outcome; writes = false; slot = slot }
 
 abbrev pub place_in : Seen → ℕ
-place_in seen = place_of (placeFor seen.asked seen.survey)
+place_in seen = place_of (place_for seen.asked seen.survey)
 
 -- what a function says that decides by the look over the slots: it is so of every table that this is a look over
 abbrev pub Answering : Call → Asked → (List Slot → Change) → Survey → Slot → (reply reply' : List ℕ) → Answer → Type 0

@@ -7,7 +7,7 @@ use stun::kinds::{Class, MessageKind, Method};
 use stun::message::well_formed;
 use wire::u16_at;
 
-#[derive(Drop)]
+#[derive(Clone, Copy)]
 pub enum Asked {
     Allocate,
     Refresh,

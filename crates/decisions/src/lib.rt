@@ -1,4 +1,6 @@
 // What a call does, by value: what it asks, the look over the slots that this needs, and what becomes of the slot that was found.
+#![tactic(auto)]
+
 ghost use Rattle.std.specs.Prelude.{◌≡◌, Bool, true, false, not, List, ℕ, ◌≤◌, length};
 ghost use Rattle.table.specs.Inner.{place_of};
 ghost use Rattle.slot.specs.Search.{has};
@@ -57,7 +59,7 @@ fn asks_denied(nodes: &[u16; 1536], datagram: &[u8], asked: Asked) -> bool
 }
 
 // What a call asks, and whether it names a denied peer.
-#[derive(Drop)]
+#[derive(Clone, Copy)]
 pub struct Asking {
     pub asked: Asked,
     pub denied: bool,
@@ -111,7 +113,7 @@ pub fn wanted_by(call: Call, asking: Asking) -> Wanted
 }
 
 // What a call asks, and what the look over the slots learned for it.
-#[derive(Drop)]
+#[derive(Clone, Copy)]
 pub struct Seen {
     pub asked: Asked,
     pub denied: bool,

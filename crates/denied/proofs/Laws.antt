@@ -8,8 +8,7 @@ use lib.Dec.{eqb}
 use lib.ListN.{length, get_or, set, take, drop, drop_of_length-le, get_or-eq_default}
 use lib.Seq.{slice, take-length, drop-cons, drop-drop}
 use borrow.Author.Tests.{lt-ltb, le-ltb, ltb-true, leb-true, eq-eqb, ne_eqb}
-use Rattle.bytes.specs.Bytes as bytes
-use Rattle.bytes.specs.Bytes.{index_of, index_after}
+use Rattle.text.specs.Scan.{index_of, index_after}
 use Rattle.choice.specs.Choice.{pick}
 use Rattle.choice.proofs.Laws.{chosen, both_parts}
 use Rattle.text.specs.declared.Parsed.{Parsed}
@@ -132,9 +131,9 @@ first_line c (d ∷ s) = go (eqb c 10) (first_line d s)
     go false e = ap (started_by c) e
 
 -- and the rest begins behind it
-pub next_line : (text : List ℕ) {start end : ℕ} → start < length text → end ≡ start + index_of 10 (bytes.slice start (length text) text)
+pub next_line : (text : List ℕ) {start end : ℕ} → start < length text → end ≡ start + index_of 10 (slice start (length text) text)
     → lines_of (drop start text) ≡ take (end - start) (drop start text) ∷ lines_of (drop (end + 1) text)
-unfolding bytes.slice
+unfolding slice
 next_line text {start} {end} h e =
     let cons = drop-cons text start 0 h in
     let whole : end ≡ start + index_of 10 (drop start text) = e ∙ ap (λ (l : List ℕ). start + index_of 10 (drop start l)) (take-length text) in
@@ -150,7 +149,7 @@ module _ {answer : Reading} {text old : List ℕ} {tree : Tree} {start : ℕ} (l
   unfolding on_lines lines_of
   none_left h = sym (rw (drop_of_length-le text h) at left.is)
 
-  module _ {end : ℕ} {one : Step} (h : start < length text) (e : end ≡ start + index_of 10 (bytes.slice start (length text) text))
+  module _ {end : ℕ} {one : Step} (h : start < length text) (e : end ≡ start + index_of 10 (slice start (length text) text))
       (o : one ≡ on_line tree (line_of (take (end - start) (drop start text)))) where
     told : answer ≡ taken (pick (eqb one.number 0) (on_lines one.tree (map line_of (lines_of (drop (end + 1) text)))) one) old
     unfolding on_lines

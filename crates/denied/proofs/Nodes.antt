@@ -27,7 +27,7 @@ use Rattle.denied.specs.Prefixes.{lines_of, line_of}
 use Rattle.denied.specs.Inner.{LineFits}
 use Rattle.denied.specs.Tree.{child_of, is_listed, is_child, bit_of, empty_tree, tree, grow, with_prefix}
 use Rattle.denied.specs.Denied.{on_line, on_lines, prefixes_of, taken, read_denied}
-use Rattle.denied.specs.Strings.{BitString, string, empty_string, leading, longer, Leads, Listed, string_at, StandsFor}
+use Rattle.denied.specs.Strings.{BitString, empty_string, leading, longer, Leads, Listed, string_at, StandsFor}
 use Rattle.denied.proofs.Laws.{prefix_fits, word_of}
 use Rattle.denied.proofs.Shape.{child_some, Follows, Shape, with_child, child_is, no_child, shape_listed, before, last, more_many, new, different_more, shape_more}
 use Rattle.denied.proofs.Strings.{member_at, place_of, member_last, longer-leading, bit_small, LeadsTo, leading-none}

@@ -13,8 +13,8 @@ use lib.ListN.{length, get_or, set, length-append, length-set, get_or-append}
 use lib.Seq.{get_or_at, get_or-set_same, get_or-set_other}
 use borrow.Author.Tests.{lt-ltb, ltb-true}
 use Rattle.choice.proofs.Laws.{both_parts, both_true}
-use Rattle.denied.specs.Tree.{child_of, is_child, tree}
-use Rattle.denied.specs.Strings.{BitString, string, empty_string, longer, string_at}
+use Rattle.denied.specs.Tree.{child_of, is_child}
+use Rattle.denied.specs.Strings.{BitString, empty_string, longer, string_at}
 use Rattle.denied.proofs.Strings.{longer_same, longer_some}
 
 -- ---- Trees and their strings

@@ -1,17 +1,19 @@
 // Denied IPv4 prefixes: the text that lists them, the prefix tree that it is read into, and whether an address is denied.
+#![tactic(auto)]
+
 ghost use Rattle.std.specs.Prelude.{◌≡◌};
 ghost use Rattle.denied.specs.Prefixes.{line_of};
 ghost use Rattle.denied.specs.Denied.{on_line, read_denied};
 
-use bytes::scan::find;
 use prefixes::{Line, line_of};
+use text::scan::find;
 use tree::{Tree, empty_tree, with_prefix};
 
 pub mod prefixes;
 pub mod tree;
 
 // The tree with a line more: the number that the line is refused with, or 0.
-#[derive(Drop)]
+#[derive(Clone, Copy)]
 pub struct Step {
     pub number: u8,
     pub tree: Tree,
@@ -40,7 +42,7 @@ fn with_line(tree: Tree, line: &[u8]) -> Step
 }
 
 // What became of a text: the number that it is refused with, or 0; how many nodes its tree has, 0 where it was refused; and the nodes afterwards.
-#[derive(Drop)]
+#[derive(Clone, Copy)]
 pub struct Reading {
     pub number: u8,
     pub count: usize,

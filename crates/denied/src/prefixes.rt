@@ -6,7 +6,7 @@ ghost use Rattle.denied.specs.Inner.{WordOf, LineFits};
 use text::{Parsed, read_decimal, read_hex_word};
 
 // A prefix is the first `length` bits of the address.
-#[derive(Drop)]
+#[derive(Clone, Copy)]
 pub enum Line {
     Prefix { address: u32, length: u32 },
     Bad,

@@ -5,14 +5,14 @@ ghost use Rattle.denied.specs.Tree.{bit_of, child_of, is_listed, is_child, denie
 
 use choice::both;
 
-#[derive(Drop)]
+#[derive(Clone, Copy)]
 pub struct Tree {
     pub nodes: [u16; 1536],
     pub count: usize,
 }
 
 // The tree with a prefix more, if it fits.
-#[derive(Drop)]
+#[derive(Clone, Copy)]
 pub struct Grown {
     pub fits: bool,
     pub tree: Tree,

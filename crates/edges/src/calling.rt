@@ -12,7 +12,7 @@ use slot::fresh_slot;
 
 // What the calls after a `W` line bring besides: how long the reply is, how many slots are lent, the protocol and the server's port of
 // the 5-tuple, and how long the datagram is; where that is 0, as long as its bytes.
-#[derive(Drop)]
+#[derive(Clone, Copy)]
 pub struct Setting {
     pub reply: usize,
     pub slots: usize,
@@ -42,11 +42,11 @@ pub(crate) fn read_setting(line: &[u8]) -> Setting {
 }
 
 // The name of a case, its first field.
-pub(crate) fn write_name(line: &[u8]) {
+pub(crate) fn write_name(rt: &impl Print, line: &[u8]) {
     let from = field_start(line, 1);
     let to = stop(line, from, TAB);
-    write(&line[from..to]);
-    write_byte(b':');
+    write(rt, &line[from..to]);
+    write_byte(rt, b':');
 }
 
 // Whether a line has a name; one without prepares a case.
@@ -77,20 +77,20 @@ fn written(outcome: Outcome) -> usize {
 }
 
 // The name, what the call gave, and the clock afterwards.
-fn write_case<'a>(line: &[u8], after: Held, datagram: &'a [u8], reply: &'a [u8]) {
+fn write_case<'a>(rt: &impl Print, line: &[u8], after: Held, datagram: &'a [u8], reply: &'a [u8]) {
     if !is_named(line) {
         return;
     }
     let outcome = after.outcome;
-    write_name(line);
-    write_byte(b' ');
-    write_outcome(outcome, datagram, reply);
+    write_name(rt, line);
+    write_byte(rt, b' ');
+    write_outcome(rt, outcome, datagram, reply);
     let kept = after.bookkeeping;
-    write_number(b", clock ", kept.clock);
+    write_number(rt, b", clock ", kept.clock);
     if !is_untouched(reply, written(outcome)) {
-        write(b", the rest of the reply has changed");
+        write(rt, b", the rest of the reply has changed");
     }
-    write_byte(b'\n');
+    write_byte(rt, b'\n');
 }
 
 // The entry over the table, or where the setting says 63 or 65 slots, over a fresh one of so many.
@@ -125,14 +125,22 @@ fn within(held: Held, setting: Setting, call: Call, datagram: &[u8], reply: &mut
 }
 
 // A call with the first len bytes, its line written.
-fn called(held: Held, setting: Setting, call: Call, bytes: &[u8], len: usize, line: &[u8]) -> Held {
+fn called(
+    rt: &impl Print,
+    held: Held,
+    setting: Setting,
+    call: Call,
+    bytes: &[u8],
+    len: usize,
+    line: &[u8],
+) -> Held {
     if bytes.len() < len {
         return held;
     }
     let datagram = &bytes[0..len];
     let mut reply = [UNTOUCHED; 1536];
     let after = within(held, setting, call, datagram, &mut reply);
-    write_case(line, after, datagram, &reply);
+    write_case(rt, line, after, datagram, &reply);
     after
 }
 
@@ -145,14 +153,21 @@ pub(crate) fn length_of(field: usize, asked: usize) -> usize {
 }
 
 // A call with the datagram of that field; bytes that the field does not have are 7.
-fn carried(held: Held, setting: Setting, call: Call, line: &[u8], k: usize) -> Held {
+fn carried(
+    rt: &impl Print,
+    held: Held,
+    setting: Setting,
+    call: Call,
+    line: &[u8],
+    k: usize,
+) -> Held {
     let mut datagram = [7u8; 1600];
     let field = bytes(line, k, &mut datagram);
     let len = length_of(field, setting.datagram);
-    called(held, setting, call, &datagram, len, line)
+    called(rt, held, setting, call, &datagram, len, line)
 }
 
-pub(crate) fn from_client(held: Held, setting: Setting, line: &[u8]) -> Held {
+pub(crate) fn from_client(rt: &impl Print, held: Held, setting: Setting, line: &[u8]) -> Held {
     let server = TransportAddress {
         address: Address::V4(0xcb007105),
         port: setting.server,
@@ -166,15 +181,15 @@ pub(crate) fn from_client(held: Held, setting: Setting, line: &[u8]) -> Held {
     let user = number_u32(line, 3);
     let start = number_u32(line, 4);
     let call = call_of_client(time, user, start, 0xcb007105, five_tuple);
-    carried(held, setting, call, line, 7)
+    carried(rt, held, setting, call, line, 7)
 }
 
-pub(crate) fn from_peer(held: Held, setting: Setting, line: &[u8]) -> Held {
+pub(crate) fn from_peer(rt: &impl Print, held: Held, setting: Setting, line: &[u8]) -> Held {
     let id = TransactionId {
         high: 0,
         middle: 0,
         low: 0,
     };
     let call = call_of_peer(number(line, 2), peer(line, 3, 4), number_u16(line, 5), id);
-    carried(held, setting, call, line, 6)
+    carried(rt, held, setting, call, line, 6)
 }

@@ -14,33 +14,33 @@ fn with_bookkeeping(held: Held, bookkeeping: Bookkeeping) -> Held {
 }
 
 // The number of the refusal, or how many nodes the tree has.
-fn write_reading(line: &[u8], made: Denying) {
-    write_name(line);
-    write_byte(b' ');
+fn write_reading(rt: &impl Print, line: &[u8], made: Denying) {
+    write_name(rt, line);
+    write_byte(rt, b' ');
     if made.number == 0 {
-        write_number(b"nodes ", made.count as u64);
+        write_number(rt, b"nodes ", made.count as u64);
     } else {
-        write_lettered(b'R', made.number as u64);
+        write_lettered(rt, b'R', made.number as u64);
     }
-    write_byte(b'\n');
+    write_byte(rt, b'\n');
 }
 
 // The first size bytes are the text.
-fn read_first(held: Held, line: &[u8], bytes: &[u8], size: usize) -> Held {
+fn read_first(rt: &impl Print, held: Held, line: &[u8], bytes: &[u8], size: usize) -> Held {
     if bytes.len() < size {
         return held;
     }
     let made = deny(held.bookkeeping, &bytes[0..size]);
-    write_reading(line, made);
+    write_reading(rt, line, made);
     let bookkeeping = made.bookkeeping;
     with_bookkeeping(held, bookkeeping)
 }
 
 // `D` name, bytes: a text is read.
-pub(crate) fn read(held: Held, line: &[u8]) -> Held {
+pub(crate) fn read(rt: &impl Print, held: Held, line: &[u8]) -> Held {
     let mut text = [0u8; 1600];
     let size = bytes(line, 2, &mut text);
-    read_first(held, line, &text, size)
+    read_first(rt, held, line, &text, size)
 }
 
 // `G` place, number: a number put into the tree, three for each node; from place 1,536 on, in every place.
@@ -63,21 +63,21 @@ pub(crate) fn with_number(held: Held, line: &[u8]) -> Held {
     )
 }
 
-fn write_answer(held: Held, a: u32) {
+fn write_answer(rt: &impl Print, held: Held, a: u32) {
     let kept = held.bookkeeping;
     let nodes = kept.denied;
     if is_denied(&nodes, a) {
-        write(b" denied\n");
+        write(rt, b" denied\n");
     } else {
-        write(b" not denied\n");
+        write(rt, b" not denied\n");
     }
 }
 
 // `I` name, address: whether it is denied.
-pub(crate) fn ask(held: Held, line: &[u8]) {
-    write_name(line);
+pub(crate) fn ask(rt: &impl Print, held: Held, line: &[u8]) {
+    write_name(rt, line);
     match address(line, 2) {
-        Address::V4(a) => write_answer(held, a),
-        Address::V6(_, _, _, _) => write(b" no IPv4 address\n"),
+        Address::V4(a) => write_answer(rt, held, a),
+        Address::V6(_, _, _, _) => write(rt, b" no IPv4 address\n"),
     }
 }

@@ -1,5 +1,5 @@
 // The entries over tables that are lent as slices of records: the relay's over 63 or 65 slots, the listing's over 64 or 63.
-// Each lends an array of its own, so that its proof is a walk.
+// Each lends an array of its own.
 ghost use Rattle.std.specs.Prelude.{◌≡◌, length, replicate};
 ghost use Rattle.choice.specs.Choice.{pick};
 ghost use Rattle.listing.specs.Listing.{Lists};

@@ -24,32 +24,32 @@ fn within(held: Held, slots: usize, output: &mut [u8], room: usize) -> Listed {
 }
 
 // How long the listing is, and its lines.
-fn write_lines(output: &[u8], len: usize) {
-    write_count(len);
-    write_byte(b'\n');
+fn write_lines(rt: &impl Print, output: &[u8], len: usize) {
+    write_count(rt, len);
+    write_byte(rt, b'\n');
     if len <= output.len() {
-        write(&output[0..len]);
+        write(rt, &output[0..len]);
     }
     if !is_untouched(output, len) {
-        write(b"the rest of the output has changed\n");
+        write(rt, b"the rest of the output has changed\n");
     }
 }
 
-fn write_listed(listed: Listed, output: &[u8]) {
+fn write_listed(rt: &impl Print, listed: Listed, output: &[u8]) {
     match listed {
         Listed::Refused(number) => {
-            write_byte(b' ');
-            write_lettered(b'R', number as u64);
-            write_byte(b'\n');
+            write_byte(rt, b' ');
+            write_lettered(rt, b'R', number as u64);
+            write_byte(rt, b'\n');
         }
-        Listed::Length(len) => write_lines(output, len),
+        Listed::Length(len) => write_lines(rt, output, len),
     }
 }
 
-pub(crate) fn show(held: Held, slots: usize, line: &[u8]) {
+pub(crate) fn show(rt: &impl Print, held: Held, slots: usize, line: &[u8]) {
     let mut output = [UNTOUCHED; 4096];
     let room = number(line, 2) as usize;
     let listed = within(held, slots, &mut output, room);
-    write_name(line);
-    write_listed(listed, &output);
+    write_name(rt, line);
+    write_listed(rt, listed, &output);
 }

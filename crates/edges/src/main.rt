@@ -18,6 +18,8 @@
 //
 // A call's answer is `R` and the number of a refusal, `D` a drop, `S` what goes to a client, with what the clients' reader says of it, or
 // `F` what goes to a peer; then the clock after the call.
+#![tactic(auto)]
+
 mod calling;
 mod denials;
 mod fields;
@@ -28,13 +30,15 @@ mod showing;
 mod tables;
 mod vectors;
 
+ghost use Rattle.std.specs.Prelude.{◌+◌, ◌≤◌, length};
+
 use calling::Setting;
 use fields::NEWLINE;
-use libc::STDIN_FILENO;
 use relay::Held;
+use std::io::Read;
 
 // The relay, one that was kept to go back to, and what calls bring besides.
-#[derive(Drop)]
+#[derive(Clone, Copy)]
 struct State {
     held: Held,
     kept: Held,
@@ -42,36 +46,36 @@ struct State {
 }
 
 // `Q` and `P` make a call, `D` reads a text; the other letters make a table.
-fn changed(held: Held, setting: Setting, line: &[u8]) -> Held {
+fn changed(rt: &impl Print, held: Held, setting: Setting, line: &[u8]) -> Held {
     let letter = fields::letter(line);
     if letter == b'Q' {
-        return calling::from_client(held, setting, line);
+        return calling::from_client(rt, held, setting, line);
     }
     if letter == b'P' {
-        return calling::from_peer(held, setting, line);
+        return calling::from_peer(rt, held, setting, line);
     }
     if letter == b'D' {
-        return denials::read(held, line);
+        return denials::read(rt, held, line);
     }
     tables::made(held, letter, line)
 }
 
 // A line that shows something and changes nothing.
-fn show(held: Held, slots: usize, line: &[u8]) {
+fn show(rt: &impl Print, held: Held, slots: usize, line: &[u8]) {
     let letter = fields::letter(line);
     if letter == b'L' {
-        listings::show(held, slots, line);
+        listings::show(rt, held, slots, line);
         return;
     }
     if letter == b'I' {
-        denials::ask(held, line);
+        denials::ask(rt, held, line);
         return;
     }
-    showing::show(letter, line);
+    showing::show(rt, letter, line);
 }
 
 // `K` keeps the relay as it is, `B` goes back to it, `W` sets what calls bring besides.
-fn after(state: State, line: &[u8]) -> State {
+fn after(rt: &impl Print, state: State, line: &[u8]) -> State {
     let mut next = state;
     let held = state.held;
     match fields::letter(line) {
@@ -88,15 +92,15 @@ fn after(state: State, line: &[u8]) -> State {
         }
         _ => {
             let setting = state.setting;
-            show(held, setting.slots, line);
-            let made = changed(held, setting, line);
+            show(rt, held, setting.slots, line);
+            let made = changed(rt, held, setting, line);
             next.held = made;
         }
     }
     next
 }
 
-fn run(text: &[u8]) {
+fn run(rt: &impl Print, text: &[u8]) {
     let held = tables::empty();
     let kept = held;
     let setting = calling::usual();
@@ -108,13 +112,39 @@ fn run(text: &[u8]) {
     let mut from: usize = 0;
     while from < text.len() {
         let end = fields::stop(text, from, NEWLINE);
-        state = after(state, &text[from..end]);
+        state = after(rt, state, &text[from..end]);
         from = end + 1;
     }
 }
 
-fn main() {
+// Reads once, behind what there is: how many bytes came. None at the end, and none where it fails.
+fn read_behind<R: Read>(reader: &mut R, text: &mut [u8], from: usize) -> usize
+    requires { from ≤ length text.old }
+    ensures { from + result ≤ length text.old }
+{
+    match reader.read(&mut text[from..]) {
+        Ok(got) => got,
+        Err(_) => 0,
+    }
+}
+
+// Reads until the text is full, or no more comes; how many bytes it has.
+fn read_full<R: Read>(reader: &mut R, text: &mut [u8]) -> usize
+    ensures { result ≤ length text.old }
+{
+    let mut done = 0;
+    while done < text.len() {
+        let got = read_behind(reader, text, done);
+        if got == 0 {
+            break;
+        }
+        done += got;
+    }
+    done
+}
+
+fn main(rt: HostRuntime) {
     let mut text = [0u8; 131072];
-    let n = io::read_full(STDIN_FILENO, &mut text);
-    run(&text[0..n]);
+    let n = read_full(&mut rt.stdin(), &mut text);
+    run(&rt, &text[0..n]);
 }

@@ -1,143 +1,151 @@
-// What is printed: numbers, addresses, data, and what a message that goes to a client is by the clients' reader.
+// What is printed: numbers, addresses, data, and what a message that goes to a client is by the clients' reader. Nothing is made of a write that
+// fails.
 use address::{Address, TransportAddress};
 use client_reader::{Message, read_message};
 use interface::sending::what_to_send;
-use libc::STDOUT_FILENO;
 use rules::answer::Outcome;
 use stun::kinds::Method;
 
-pub(crate) fn write(text: &[u8]) {
-    io::write_all(STDOUT_FILENO, text);
+pub(crate) fn write(rt: &impl Print, text: &[u8]) {
+    let _ = rt.write_all(text);
 }
 
-pub(crate) fn write_byte(b: u8) {
+pub(crate) fn write_byte(rt: &impl Print, b: u8) {
     let text = [b];
-    write(&text);
+    write(rt, &text);
 }
 
-fn write_decimal(n: u64) {
-    io::print_decimal(STDOUT_FILENO, n);
+fn write_decimal(rt: &impl Print, n: u64) {
+    let _ = print!(rt; "{n}");
 }
 
-pub(crate) fn write_number(text: &[u8], n: u64) {
-    write(text);
-    write_decimal(n);
+pub(crate) fn write_number(rt: &impl Print, text: &[u8], n: u64) {
+    write(rt, text);
+    write_decimal(rt, n);
 }
 
 // A letter, a blank and the number that belongs to it.
-pub(crate) fn write_lettered(letter: u8, n: u64) {
-    write_byte(letter);
-    write_byte(b' ');
-    write_decimal(n);
+pub(crate) fn write_lettered(rt: &impl Print, letter: u8, n: u64) {
+    write_byte(rt, letter);
+    write_byte(rt, b' ');
+    write_decimal(rt, n);
 }
 
 // A blank, and how many bytes there are.
-pub(crate) fn write_count(len: usize) {
-    write_byte(b' ');
-    write_decimal(len as u64);
-    write(b" bytes");
+pub(crate) fn write_count(rt: &impl Print, len: usize) {
+    write_byte(rt, b' ');
+    write_decimal(rt, len as u64);
+    write(rt, b" bytes");
 }
 
-fn write_word(n: u32) {
-    io::print_hex(STDOUT_FILENO, n as u64, 8);
+fn write_word(rt: &impl Print, n: u32) {
+    let _ = print!(rt; "{n:08x}");
 }
 
-pub(crate) fn write_address(address: Address) {
+fn write_two_digits(rt: &impl Print, n: u64) {
+    let _ = print!(rt; "{n:02x}");
+}
+
+fn write_four_digits(rt: &impl Print, n: u16) {
+    let _ = print!(rt; "{n:04x}");
+}
+
+pub(crate) fn write_address(rt: &impl Print, address: Address) {
     match address {
         Address::V4(a) => {
-            write_word(a);
+            write_word(rt, a);
         }
         Address::V6(a, b, c, d) => {
-            write_word(a);
-            write_word(b);
-            write_word(c);
-            write_word(d);
+            write_word(rt, a);
+            write_word(rt, b);
+            write_word(rt, c);
+            write_word(rt, d);
         }
     }
 }
 
 // A blank, the address, a blank and the port.
-pub(crate) fn write_peer(peer: TransportAddress) {
-    write_byte(b' ');
+pub(crate) fn write_peer(rt: &impl Print, peer: TransportAddress) {
+    write_byte(rt, b' ');
     let address = peer.address;
-    write_address(address);
-    write_byte(b' ');
-    write_decimal(peer.port as u64);
+    write_address(rt, address);
+    write_byte(rt, b' ');
+    write_decimal(rt, peer.port as u64);
 }
 
 fn byte(b: u8) -> u64 {
     b as u64
 }
 
-pub(crate) fn write_hex(s: &[u8]) {
+pub(crate) fn write_hex(rt: &impl Print, s: &[u8]) {
     for i in 0..s.len() {
-        io::print_hex(STDOUT_FILENO, byte(s[i]), 2);
+        write_two_digits(rt, byte(s[i]));
     }
 }
 
 // A blank, how many bytes there are, and the bytes: of more than eight the first two and the last two.
-pub(crate) fn write_data(s: &[u8]) {
+pub(crate) fn write_data(rt: &impl Print, s: &[u8]) {
     let len = s.len();
-    write_count(len);
+    write_count(rt, len);
     if len == 0 {
         return;
     }
-    write_byte(b' ');
+    write_byte(rt, b' ');
     if len <= 8 {
-        write_hex(s);
+        write_hex(rt, s);
         return;
     }
     let last = len - 2;
-    write_hex(&s[0..2]);
-    write(b"..");
-    write_hex(&s[last..]);
+    write_hex(rt, &s[0..2]);
+    write(rt, b"..");
+    write_hex(rt, &s[last..]);
 }
 
-fn write_method(method: Method) {
+fn write_method(rt: &impl Print, method: Method) {
     match method {
-        Method::Allocate => write(b"Allocate"),
-        Method::Refresh => write(b"Refresh"),
-        Method::CreatePermission => write(b"CreatePermission"),
-        Method::ChannelBind => write(b"ChannelBind"),
+        Method::Allocate => write(rt, b"Allocate"),
+        Method::Refresh => write(rt, b"Refresh"),
+        Method::CreatePermission => write(rt, b"CreatePermission"),
+        Method::ChannelBind => write(rt, b"ChannelBind"),
     }
 }
 
-fn write_allocated(port: u16, seconds: u32, client: TransportAddress) {
-    write_number(b"Allocate success, port ", port as u64);
-    write_number(b", seconds ", seconds as u64);
-    write(b", client");
-    write_peer(client);
+fn write_allocated(rt: &impl Print, port: u16, seconds: u32, client: TransportAddress) {
+    write_number(rt, b"Allocate success, port ", port as u64);
+    write_number(rt, b", seconds ", seconds as u64);
+    write(rt, b", client");
+    write_peer(rt, client);
 }
 
-fn write_error(method: Method, code: u16) {
-    write_method(method);
-    write_number(b" error ", code as u64);
+fn write_error(rt: &impl Print, method: Method, code: u16) {
+    write_method(rt, method);
+    write_number(rt, b" error ", code as u64);
 }
 
 // The types that a 420 names: how many, and the first.
-fn write_unknown(count: usize, types: [u16; 16]) {
-    write_number(b", types ", count as u64);
-    write(b" from ");
-    io::print_hex(STDOUT_FILENO, types[0] as u64, 4);
+fn write_unknown(rt: &impl Print, count: usize, types: [u16; 16]) {
+    write_number(rt, b", types ", count as u64);
+    write(rt, b" from ");
+    write_four_digits(rt, types[0]);
 }
 
-fn write_indication(peer: u32, port: u16, data: &[u8]) {
+fn write_indication(rt: &impl Print, peer: u32, port: u16, data: &[u8]) {
     let address = Address::V4(peer);
-    write(b"Data indication from");
-    write_peer(TransportAddress { address, port });
-    write_byte(b',');
-    write_data(data);
+    write(rt, b"Data indication from");
+    write_peer(rt, TransportAddress { address, port });
+    write_byte(rt, b',');
+    write_data(rt, data);
 }
 
-fn write_channel_data(number: u16, data: &[u8]) {
-    write(b"ChannelData ");
-    io::print_hex(STDOUT_FILENO, number as u64, 4);
-    write_byte(b',');
-    write_data(data);
+fn write_channel_data(rt: &impl Print, number: u16, data: &[u8]) {
+    write(rt, b"ChannelData ");
+    write_four_digits(rt, number);
+    write_byte(rt, b',');
+    write_data(rt, data);
 }
 
 // What the clients' reader says of the bytes.
-pub(crate) fn write_message(s: &[u8]) {
+pub(crate) fn write_message(rt: &impl Print, s: &[u8]) {
     let read = read_message(s);
     let types = read.types;
     let message = read.message;
@@ -148,26 +156,26 @@ pub(crate) fn write_message(s: &[u8]) {
             port,
             seconds,
             client,
-        } => write_allocated(port, seconds, client),
+        } => write_allocated(rt, port, seconds, client),
         Message::RefreshSuccess { id: _, seconds } => {
-            write_number(b"Refresh success, seconds ", seconds as u64)
+            write_number(rt, b"Refresh success, seconds ", seconds as u64)
         }
         Message::BareSuccess { method, id: _ } => {
-            write_method(method);
-            write(b" success");
+            write_method(rt, method);
+            write(rt, b" success");
         }
         Message::Error {
             method,
             id: _,
             code,
-        } => write_error(method, code),
+        } => write_error(rt, method, code),
         Message::UnknownAttributes {
             method,
             id: _,
             count,
         } => {
-            write_error(method, 420);
-            write_unknown(count, types);
+            write_error(rt, method, 420);
+            write_unknown(rt, count, types);
         }
         Message::DataIndication {
             id: _,
@@ -175,28 +183,33 @@ pub(crate) fn write_message(s: &[u8]) {
             port,
             start,
             len,
-        } => write_indication(peer, port, wire::part(s, start, len)),
+        } => write_indication(rt, peer, port, wire::part(s, start, len)),
         Message::ChannelData { number, start, len } => {
-            write_channel_data(number, wire::part(s, start, len))
+            write_channel_data(rt, number, wire::part(s, start, len))
         }
-        Message::Nothing => write(b"none"),
+        Message::Nothing => write(rt, b"none"),
     }
 }
 
 // `R` a refusal, `D` a drop with its cause, `S` what goes to a client, `F` what goes to a peer.
-pub(crate) fn write_outcome<'a>(outcome: Outcome, datagram: &'a [u8], reply: &'a [u8]) {
+pub(crate) fn write_outcome<'a>(
+    rt: &impl Print,
+    outcome: Outcome,
+    datagram: &'a [u8],
+    reply: &'a [u8],
+) {
     match outcome {
-        Outcome::Refused(number) => write_lettered(b'R', number as u64),
-        Outcome::DroppedLapsed => write(b"D lapsed"),
-        Outcome::DroppedNever => write(b"D never"),
-        Outcome::DroppedOther => write(b"D other"),
+        Outcome::Refused(number) => write_lettered(rt, b'R', number as u64),
+        Outcome::DroppedLapsed => write(rt, b"D lapsed"),
+        Outcome::DroppedNever => write(rt, b"D never"),
+        Outcome::DroppedOther => write(rt, b"D other"),
         Outcome::ToClient { five_tuple, len } => {
-            write_byte(b'S');
-            write_peer(five_tuple.client);
-            write_count(len);
-            write_byte(b',');
-            write_byte(b' ');
-            write_message(what_to_send(outcome, datagram, reply));
+            write_byte(rt, b'S');
+            write_peer(rt, five_tuple.client);
+            write_count(rt, len);
+            write_byte(rt, b',');
+            write_byte(rt, b' ');
+            write_message(rt, what_to_send(outcome, datagram, reply));
         }
         Outcome::ToPeer {
             port,
@@ -204,15 +217,15 @@ pub(crate) fn write_outcome<'a>(outcome: Outcome, datagram: &'a [u8], reply: &'a
             start: _,
             len: _,
         } => {
-            write_lettered(b'F', port as u64);
-            write_peer(peer);
-            write_data(what_to_send(outcome, datagram, reply));
+            write_lettered(rt, b'F', port as u64);
+            write_peer(rt, peer);
+            write_data(rt, what_to_send(outcome, datagram, reply));
         }
     }
 }
 
 // A line of the cases, as it stands.
-pub(crate) fn write_line(line: &[u8]) {
-    write(line);
-    write_byte(b'\n');
+pub(crate) fn write_line(rt: &impl Print, line: &[u8]) {
+    write(rt, line);
+    write_byte(rt, b'\n');
 }

@@ -8,10 +8,10 @@ use interface::sending::what_to_send;
 use rules::answer::Outcome;
 
 // What an outcome shows of a datagram and a reply of eight bytes each.
-fn write_sent(line: &[u8], outcome: Outcome) {
-    write_name(line);
-    write_data(what_to_send(outcome, b"datagram", b"response"));
-    write_byte(b'\n');
+fn write_sent(rt: &impl Print, line: &[u8], outcome: Outcome) {
+    write_name(rt, line);
+    write_data(rt, what_to_send(outcome, b"datagram", b"response"));
+    write_byte(rt, b'\n');
 }
 
 fn nobody() -> TransportAddress {
@@ -20,32 +20,33 @@ fn nobody() -> TransportAddress {
 }
 
 // `R` name, number: a refusal; 0 is a drop.
-fn refused(line: &[u8]) {
+fn refused(rt: &impl Print, line: &[u8]) {
     let number = number_u8(line, 2);
     if number == 0 {
-        write_sent(line, Outcome::DroppedOther);
+        write_sent(rt, line, Outcome::DroppedOther);
         return;
     }
-    write_sent(line, Outcome::Refused(number));
+    write_sent(rt, line, Outcome::Refused(number));
 }
 
 // `S` name, len.
-fn to_client(line: &[u8]) {
+fn to_client(rt: &impl Print, line: &[u8]) {
     let five_tuple = FiveTuple {
         client: nobody(),
         server: nobody(),
         protocol: 17,
     };
     let len = number(line, 2) as usize;
-    write_sent(line, Outcome::ToClient { five_tuple, len });
+    write_sent(rt, line, Outcome::ToClient { five_tuple, len });
 }
 
 // `F` name, start, len.
-fn to_peer(line: &[u8]) {
+fn to_peer(rt: &impl Print, line: &[u8]) {
     let peer = nobody();
     let start = number(line, 2) as usize;
     let len = number(line, 3) as usize;
     write_sent(
+        rt,
         line,
         Outcome::ToPeer {
             port: 49152,
@@ -56,32 +57,32 @@ fn to_peer(line: &[u8]) {
     );
 }
 
-fn write_first(message: &[u8], len: usize) {
+fn write_first(rt: &impl Print, message: &[u8], len: usize) {
     if len <= message.len() {
-        write_message(&message[0..len]);
+        write_message(rt, &message[0..len]);
     }
 }
 
 // `M` name, bytes, and how many there are in all, or 0; those that the field does not have are 7.
-fn message(line: &[u8]) {
+fn message(rt: &impl Print, line: &[u8]) {
     let mut message = [7u8; 1600];
     let field = bytes(line, 2, &mut message);
     let all = number(line, 3) as usize;
-    write_name(line);
-    write_byte(b' ');
-    write_first(&message, length_of(field, all));
-    write_byte(b'\n');
+    write_name(rt, line);
+    write_byte(rt, b' ');
+    write_first(rt, &message, length_of(field, all));
+    write_byte(rt, b'\n');
 }
 
 // What a line shows that needs no table; `V` the vectors, and a heading as it stands.
-pub(crate) fn show(letter: u8, line: &[u8]) {
+pub(crate) fn show(rt: &impl Print, letter: u8, line: &[u8]) {
     match letter {
-        b'R' => refused(line),
-        b'S' => to_client(line),
-        b'F' => to_peer(line),
-        b'M' => message(line),
-        b'V' => vectors(),
-        b'#' => write_line(line),
+        b'R' => refused(rt, line),
+        b'S' => to_client(rt, line),
+        b'F' => to_peer(rt, line),
+        b'M' => message(rt, line),
+        b'V' => vectors(rt),
+        b'#' => write_line(rt, line),
         _ => {}
     }
 }

@@ -30,24 +30,25 @@ fn put_message(message: &mut [u8], address: Address)
 }
 
 // The address of that IP version, whose value has so many bytes.
-fn vector(version: u64, address: Address, len: usize)
+fn vector(rt: &impl Print, version: u64, address: Address, len: usize)
     requires { len ≤ 20 }
 {
     let mut message = [0u8; 64];
     put_message(&mut message, address);
-    write_number(b"RFC 5769's IPv", version);
-    write(b" address: written ");
+    write_number(rt, b"RFC 5769's IPv", version);
+    write(rt, b" address: written ");
     let end = 24 + len;
-    write_hex(&message[24..end]);
+    write_hex(rt, &message[24..end]);
     let value = address_at(&message, 24, len);
-    write(b", read");
-    write_peer(value.peer);
-    write_byte(b'\n');
+    write(rt, b", read");
+    write_peer(rt, value.peer);
+    write_byte(rt, b'\n');
 }
 
-pub(crate) fn vectors() {
-    vector(4, Address::V4(0xc0000201), 8);
+pub(crate) fn vectors(rt: &impl Print) {
+    vector(rt, 4, Address::V4(0xc0000201), 8);
     vector(
+        rt,
         6,
         Address::V6(0x20010db8, 0x12345678, 0x00112233, 0x44556677),
         20,

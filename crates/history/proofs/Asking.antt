@@ -10,7 +10,6 @@ use borrow.Author.Tests.{eqb-true, eq-eqb}
 use Rattle.wire.specs.Wire.{num}
 use Rattle.choice.specs.Choice.{pick, lookup}
 use Rattle.stun.specs.declared.kinds.Class.{Class}
-use Rattle.stun.specs.declared.kinds.Class.TheVariants as Class
 use Rattle.stun.specs.declared.kinds.Method.{Method}
 use Rattle.stun.specs.declared.kinds.Method.TheVariants.{Allocate, Refresh, CreatePermission, ChannelBind}
 use Rattle.stun.specs.declared.kinds.MessageKind.{MessageKind}
@@ -18,7 +17,6 @@ use Rattle.stun.specs.declared.kinds.MessageKind.TheVariants as Kind
 use Rattle.stun.specs.Kinds.{request_type, message_kinds, message_kind_of}
 use Rattle.stun.specs.Message.{sorted, is_well_formed}
 use Rattle.decisions.specs.declared.client.Asked.{Asked}
-use Rattle.decisions.specs.declared.client.Asked.TheVariants as Asked
 use Rattle.decisions.specs.Client.{request_asks, kind_asks, class_asks, asked_by}
 use Rattle.history.specs.Events.{asks}
 

@@ -3,7 +3,7 @@ use mathlib.Core.Path.{◌≡◌, refl, sym, ◌∙◌, ap}
 use mathlib.Core.List.{List, [], ◌∷◌, ◌++◌, map}
 use Rattle.state.specs.State.{State, empty}
 use Rattle.history.specs.Counted.{Counted}
-use Rattle.history.specs.Events.{Arrival, outcome, replied, run, Event, events, Happened, Lived, counted}
+use Rattle.history.specs.Events.{Arrival, outcome, replied, next, run, Event, events, Happened, Lived, counted}
 use Rattle.history.specs.Statement.{Demand3From, Demand3}
 use Rattle.history.proofs.Table.{AccountsFor}
 use Rattle.history.proofs.Whole.{accounts_empty, lived_accounts, apart, delivery, nobody}
@@ -27,7 +27,7 @@ arrivals list = map (λ e. e.arrival) list
 -- every list of calls is lived through
 pub lived_run : (first : State) (calls : List Arrival) → Lived first (events first calls) (run first calls)
 lived_run first [] = refl
-lived_run first (a ∷ calls) = (_, record { outcome_is = refl; state_is = refl; reply_is = refl }, lived_run _ calls)
+lived_run first (a ∷ calls) = (_, record { outcome_is = refl; state_is = refl; reply_is = refl }, lived_run (next first a) calls)
 
 -- and in one way only
 pub lived_is : (list : List Event) (first last : State) → Lived first list last

@@ -40,7 +40,6 @@ use Rattle.denied.specs.Tree.{denied}
 use Rattle.denied.specs.Denied.{prefixes_of, read_denied}
 use Rattle.denied.proofs.Theorem.{denied_exactly}
 use Rattle.decisions.specs.declared.client.Asked.{Asked}
-use Rattle.decisions.specs.declared.client.Asked.TheVariants as Asked
 use Rattle.decisions.specs.Client.{asked_by}
 use Rattle.decisions.specs.Decisions.{as_rules, slot_in, room_for, asks_denied, names_denied, on_asked, decided}
 use Rattle.decisions.proofs.Accepted.{allocates, refreshes, permits, binds}

@@ -24,7 +24,6 @@ use Rattle.slot.specs.Search.{put_at, at_or}
 use Rattle.slot.specs.Slot.{fresh_permission, fresh_channel, fresh_slot, is_channel_number, permission_entry, permit, channel_entry, bind}
 use Rattle.table.specs.Table.{slot_at}
 use Rattle.decisions.specs.declared.client.Asked.{Asked}
-use Rattle.decisions.specs.declared.client.Asked.TheVariants as Asked
 use Rattle.rules.specs.Change.{Change, keep, write}
 use Rattle.rules.specs.Values.{lifetime}
 use Rattle.allocation_rules.specs.Allocations.{allocated, renewed}
@@ -62,7 +61,7 @@ fresh_fits : SlotFits fresh_slot
 unfolding fresh_slot
 fresh_fits = record {
   allocation = record { user = lit< tt; client = (lit< tt, lit< tt); server = (lit< tt, lit< tt); protocol = lit< tt; port = lit< tt; expiry = lit< tt };
-  transaction_id_lem = (lit< tt, lit< tt, lit< tt);
+  transaction_id = (lit< tt, lit< tt, lit< tt);
   eight_permissions = refl;
   permissions = λ i. rw (all_same fresh_permission 8 i) (record { address = lit< tt; expiry = lit< tt });
   eight_channels = refl;
@@ -105,7 +104,7 @@ module _ (t : ℕ) (soon : t ≤ 2 ^ 40) where
   unfolding permit
   permit_fits a slot h f = record {
     allocation = f.allocation;
-    transaction_id_lem = f.transaction_id_lem;
+    transaction_id = f.transaction_id;
     eight_permissions = length_place (permission_entry t a slot.permissions) _ slot.permissions ∙ f.eight_permissions;
     permissions =
         place_keeps PermissionFits fresh_permission _ (record { address = h; expiry = omega arith }) (permission_entry t a slot.permissions) slot.permissions f.permissions;
@@ -117,7 +116,7 @@ module _ (t : ℕ) (soon : t ≤ 2 ^ 40) where
   unfolding bind
   bind_fits number peer slot n h f = record {
     allocation = f.allocation;
-    transaction_id_lem = f.transaction_id_lem;
+    transaction_id = f.transaction_id;
     eight_permissions = f.eight_permissions;
     permissions = f.permissions;
     eight_channels = length_place (channel_entry t number slot.channels) _ slot.channels ∙ f.eight_channels;
@@ -135,7 +134,7 @@ module _ (t : ℕ) (soon : t ≤ 2 ^ 40) where
       let a = f.allocation in
       record {
         allocation = record { user = a.user; client = a.client; server = a.server; protocol = a.protocol; port = a.port; expiry = h };
-        transaction_id_lem = f.transaction_id_lem;
+        transaction_id = f.transaction_id;
         eight_permissions = f.eight_permissions;
         permissions = f.permissions;
         eight_channels = f.eight_channels;
@@ -148,7 +147,7 @@ module _ (denied : Bool) (call : FromClient) (s : List ℕ) (l : List Slot) (fit
   unfolding allocated
   allocated_fits port seconds p few = record {
     allocation = record { user = omega arith; client = fits.1; server = fits.2; protocol = fits.3; port = p; expiry = omega arith };
-    transaction_id_lem = id_fits s bytes;
+    transaction_id = id_fits s bytes;
     eight_permissions = fresh_fits.eight_permissions;
     permissions = fresh_fits.permissions;
     eight_channels = fresh_fits.eight_channels;

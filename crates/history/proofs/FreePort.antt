@@ -21,8 +21,8 @@ use Rattle.decisions.specs.Decisions.{ports_held}
 use Rattle.decisions.proofs.Laws.{length_held, held_at}
 use Rattle.history.proofs.Tests.{has_not}
 
-abbrev heldBy : ℕ → ℕ → Slot → Bool
-heldBy t k slot = in_slot (holds_port t (49152 + k)) slot
+abbrev held_by : ℕ → ℕ → Slot → Bool
+held_by t k slot = in_slot (holds_port t (49152 + k)) slot
 
 -- one slot more
 has_more : (b : Bool) (f : Found) → has (pick b (At zero) (further f)) ≡ pick b true (has f)
@@ -30,19 +30,19 @@ has_more true f = refl
 has_more false (At i) = refl
 has_more false Nothing = refl
 
-held_more : (t k : ℕ) (x : Slot) (l : List Slot) → has (find (heldBy t k) (x ∷ l)) ≡ pick (heldBy t k x) true (has (find (heldBy t k) l))
+held_more : (t k : ℕ) (x : Slot) (l : List Slot) → has (find (held_by t k) (x ∷ l)) ≡ pick (held_by t k x) true (has (find (held_by t k) l))
 unfolding find
-held_more t k x l = has_more (heldBy t k x) (find (heldBy t k) l)
+held_more t k x l = has_more (held_by t k x) (find (held_by t k) l)
 
 -- a slot holds one port only
-port-of : (t k : ℕ) (x : Slot) → heldBy t k x ≡ true → x.allocation.port ≡ 49152 + k
+port-of : (t k : ℕ) (x : Slot) → held_by t k x ≡ true → x.allocation.port ≡ 49152 + k
 unfolding holds_port
 port-of t k x e = eqb-true _ _ (both_parts _ _ e).1
 
-misses : (t k : ℕ) (x : Slot) → x.allocation.port < 49152 + k → heldBy t k x ≡ false
-misses t k x h = go (heldBy t k x) refl
+misses : (t k : ℕ) (x : Slot) → x.allocation.port < 49152 + k → held_by t k x ≡ false
+misses t k x h = go (held_by t k x) refl
   where
-    go : (b : Bool) → heldBy t k x ≡ b → b ≡ false
+    go : (b : Bool) → held_by t k x ≡ b → b ≡ false
     go true e = let y : ⊥ = omega (arith, port-of t k x e) in absurd y
     go false e = refl
 
@@ -55,12 +55,12 @@ module _ (t : ℕ) (x : Slot) (l : List Slot) where
   one_of : (k n : ℕ) → held_count (ports_held t (x ∷ l) k n) ≤ suc (held_count (ports_held t l k n))
   unfolding ports_held held_count
   one_of k zero = omega arith
-  one_of k (suc n) = rw (held_more t k x l) (go (heldBy t k x) refl (has (find (heldBy t k) l)) (one_of (suc k) n))
+  one_of k (suc n) = rw (held_more t k x l) (go (held_by t k x) refl (has (find (held_by t k) l)) (one_of (suc k) n))
     where
       Rest : List Slot → ℕ
       Rest r = held_count (ports_held t r (suc k) n)
 
-      go : (b : Bool) → heldBy t k x ≡ b → (c : Bool) → Rest (x ∷ l) ≤ suc (Rest l)
+      go : (b : Bool) → held_by t k x ≡ b → (c : Bool) → Rest (x ∷ l) ≤ suc (Rest l)
           → pick (pick b true c) (suc (Rest (x ∷ l))) (Rest (x ∷ l)) ≤ suc (pick c (suc (Rest l)) (Rest l))
       go true e true ih = omega arith
       go true e false ih = omega (arith, none_of (suc k) n (omega (arith, port-of t k x e)))

@@ -14,9 +14,11 @@ pub mod Slots
 pub mod Fits
 pub mod Denied
 pub mod ReadBack
+pub mod Concerns
 pub mod Own
 pub mod Causes
 pub mod Corollaries
+pub mod Unseen
 pub mod Repeats
 pub mod Shut
 pub mod Lines

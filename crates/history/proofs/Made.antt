@@ -31,7 +31,6 @@ use Rattle.permission_rules.specs.Permissions.{create_permission, channel_bind}
 use Rattle.data_rules.specs.Data.{send, send_channel_data}
 use Rattle.data_rules.proofs.Laws.{send_is, channelled_is}
 use Rattle.decisions.specs.declared.client.Asked.{Asked}
-use Rattle.decisions.specs.declared.client.Asked.TheVariants as Asked
 use Rattle.decisions.specs.Client.{asked_by}
 use Rattle.rules.proofs.Laws.{kept_not_written}
 use Rattle.allocation_rules.proofs.Laws.{repeats_own, granted_refresh_small}

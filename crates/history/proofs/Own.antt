@@ -12,8 +12,9 @@ use Rattle.address.specs.declared.Address.{Address}
 use Rattle.address.specs.declared.FiveTuple.{FiveTuple}
 use Rattle.address.specs.Address.{same_five_tuple}
 use Rattle.address.proofs.Laws.{five_tuple_refl}
-use Rattle.history.specs.Counted.{Counted, gave, kept, allowed, nothing}
+use Rattle.history.specs.Counted.{Counted, gave, kept}
 use Rattle.history.specs.Statement.{FromAllocate, FromRefresh, GoesTo}
+use Rattle.history.proofs.Concerns.{concerns}
 use Rattle.history.proofs.Tests.{clash}
 
 -- ---- Those of a list that pass a test
@@ -34,6 +35,7 @@ module _ {A : Type 0} (p : A → Bool) where
 
   only_in : {x : A} (l : List A) → p x ≡ true → Memᴰ x l → Memᴰ x (only p l)
   unfolding only
+  only_in {x} [] e m = elim m [ ]
   only_in {x} (y ∷ l) e (Memᴰ.head q) = go (p y) refl
     where
       go : (b : Bool) → p y ≡ b → Memᴰ x (pick b (y ∷ only p l) (only p l))
@@ -78,12 +80,6 @@ module _ {A : Type 0} (p : A → Bool) where
       go true c (z ∷ f) e ih = let w = ih f r x (cc) in let q : y ≡ z = cc in let v = w.passed in more w (rw c (cc))
 
 -- ---- The events that concern C at R
-abbrev pub concerns : FiveTuple → ℕ → Counted → Bool
-concerns C R (gave D P s n) = pick (same_five_tuple D C) true (eqb P R)
-concerns C R (kept D s n) = same_five_tuple D C
-concerns C R (allowed D xs ends) = same_five_tuple D C
-concerns C R nothing = false
-
 module _ (C : FiveTuple) (R : ℕ) where
   abbrev pub about : List Counted → List Counted
   about list = only (concerns C R) list

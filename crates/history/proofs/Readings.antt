@@ -68,6 +68,7 @@ Forgotten (nothing ∷ h) C a = Forgotten h C a
 
 -- ---- a port and its holder determine each other
 pub given_port : (h : List Counted) (C : FiveTuple) (R P : ℕ) → Given h C R → Given h C P → R ≡ P
+given_port [] C R P x y = elim x [ ]
 given_port (gave D Q s n ∷ h) C R P (inl x) (inl y) = x.1 ∙ sym y.1
 given_port (gave D Q s n ∷ h) C R P (inl x) (inr y) = absurd (y.0 x.0)
 given_port (gave D Q s n ∷ h) C R P (inr x) (inl y) = absurd (x.0 y.0)
@@ -77,6 +78,7 @@ given_port (allowed D xs s ∷ h) C R P x y = given_port h C R P x y
 given_port (nothing ∷ h) C R P x y = given_port h C R P x y
 
 pub given_holder : (h : List Counted) (C E : FiveTuple) (R : ℕ) → Given h C R → Given h E R → C ≡ E
+given_holder [] C E R x y = elim x [ ]
 given_holder (gave D Q s n ∷ h) C E R (inl x) (inl y) = x.0 ∙ sym y.0
 given_holder (gave D Q s n ∷ h) C E R (inl x) (inr y) = absurd (y.1 x.1)
 given_holder (gave D Q s n ∷ h) C E R (inr x) (inl y) = absurd (x.1 y.1)
@@ -99,6 +101,7 @@ is_more_lem d h C R p q (is after before s n e l a) =
     is (d ∷ after) before s n (cc) (λ P s n. not_in (p P s n) (l P s n)) (λ D s n. not_in (q D s n) (a D s n))
 
 given_split : (h : List Counted) (C : FiveTuple) (R : ℕ) → Given h C R → Is h C R
+given_split [] C R x = elim x [ ]
 given_split (gave D P s n ∷ h) C R (inl x) = is [] h s n (cc) (λ P s n m. Memᴰ.not-nil m) (λ D s n m. Memᴰ.not-nil m)
 given_split (gave D P s n ∷ h) C R (inr x) = is_more_lem (gave D P s n) h C R (λ P₁ s₁ n₁ e. x.0 (cc)) (λ D₁ s₁ n₁ e. x.1 (cc)) (given_split h C R x.2)
 given_split (kept D s n ∷ h) C R x = is_more_lem (kept D s n) h C R (λ P₁ s₁ n₁ e. let z : ◌≡◌ {A = ℕ} 0 1 = cc in omega arith) (λ D₁ s₁ n₁ e. let z : ◌≡◌ {A = ℕ} 0 1 = cc in omega arith) (given_split h C R x)

@@ -29,7 +29,6 @@ use Rattle.allocation_rules.specs.Allocations as rules
 use Rattle.allocation_rules.proofs.Laws.{repeats_own}
 use Rattle.data_rules.specs.Data.{send, send_channel_data}
 use Rattle.decisions.specs.declared.client.Asked.{Asked}
-use Rattle.decisions.specs.declared.client.Asked.TheVariants as Asked
 use Rattle.decisions.specs.Client.{request_asks, asked_by}
 use Rattle.decisions.specs.Decisions.{as_rules, own_place, slot_in, room_for, on_asked, decided}
 use Rattle.decisions.proofs.Accepted.{allocates}
@@ -48,7 +47,8 @@ use Rattle.client_reader.specs.declared.Message.TheVariants as Reads
 use Rattle.client_reader.specs.Fields.{Bytes}
 use Rattle.client_reader.specs.Reader.{message_in}
 use Rattle.history.specs.Counted.{Counted, gave, kept, allowed, nothing, granted}
-use Rattle.history.specs.Events.{CallFits, Arrival, met, Event, Happened, Lived, asks, counts_as, counts_by, counted, acts, outcome, replied, next, run, events}
+use Rattle.history.specs.Events.{CallFits, Arrival, met, Event, Happened, Lived, asks, counts_as, counts_by, counted, acts, outcome, replied, next}
+use Rattle.history.proofs.Unseen.{Unseen}
 use Rattle.history.specs.Fits.{StateFits}
 use Rattle.history.specs.Statement.{Live}
 use Rattle.history.proofs.Readings.{Given, granted_is}
@@ -247,11 +247,6 @@ acts_alike : (st : State) (u : ℕ) (a : Arrival) → clock_of st ≤ time_of a.
 unfolding act accepted
 acts_alike st u a le le' =
     rw (refused_alike u (clock_of st) (lengths (length st.slots) (length a.datagram) (length a.reply)) a.call le' le)
-
--- later calls are answered alike from both states, and leave them alike but for the clock
-pub record Unseen (st after : State) (later : List Arrival) : Type 0 where
-  pub answers : events after later ≡ events st later
-  pub state : run after later ≡ at_time (clock_of (run after later)) (run st later)
 
 clock_unseen : (later : List Arrival) (st : State) (u t : ℕ) → clock_of st ≤ t → u ≤ t → NoneBefore t later → Unseen st (at_time u st) later
 clock_unseen [] st u t le le' none = record { answers = refl; state = refl }

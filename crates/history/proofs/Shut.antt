@@ -14,7 +14,7 @@ use Rattle.interface.specs.Refusals.{time_of}
 use Rattle.state.specs.Outcomes.{Act, outcome_of, reply_after, state_after}
 use Rattle.table.specs.Table.{slot_at}
 use Rattle.history.specs.Counted.{Counted, gave, kept, allowed, nothing, without_repeats}
-use Rattle.history.specs.Events.{Arrival, met, acts, next, Event, Happened, Lived, counts_by, counts, counted}
+use Rattle.history.specs.Events.{Arrival, met, acts, Event, Happened, Lived, counts_by, counts, counted}
 use Rattle.history.specs.Statement.{Live, Lasts, FromAddress, Comes, To}
 use Rattle.history.proofs.Readings.{Given, Granted, Allowed, goes→, goes←}
 use Rattle.history.proofs.Table as table
@@ -25,6 +25,7 @@ use Rattle.history.proofs.Corollaries.{NoneFor, counted-append}
 
 -- ---- What holds at a time held before it
 granted_before : (h : List Counted) (C : FiveTuple) (u t : ℕ) → u ≤ t → Granted h C t → Granted h C u
+granted_before [] C u t le x = elim x [ ]
 granted_before (gave D P s n ∷ h) C u t le (inl x) = inl (x.0, record { not_zero = x.1.not_zero; not_over = omega (arith, x.1.not_over) })
 granted_before (gave D P s n ∷ h) C u t le (inr x) = inr (x.0, granted_before h C u t le x.1)
 granted_before (kept D s n ∷ h) C u t le (inl x) = inl (x.0, record { not_zero = x.1.not_zero; not_over = omega (arith, x.1.not_over) })
@@ -33,6 +34,7 @@ granted_before (allowed D xs ends ∷ h) C u t le x = granted_before h C u t le 
 granted_before (nothing ∷ h) C u t le x = granted_before h C u t le x
 
 allowed_before : (h : List Counted) (C : FiveTuple) (a : Address) (u t : ℕ) → u ≤ t → Allowed h C a t → Allowed h C a u
+allowed_before [] C a u t le x = elim x [ ]
 allowed_before (gave D P s n ∷ h) C a u t le x = (x.0, allowed_before h C a u t le x.1)
 allowed_before (kept D s n ∷ h) C a u t le x = allowed_before h C a u t le x
 allowed_before (allowed D xs ends ∷ h) C a u t le (inl x) = inl (x.0, x.1, omega (arith, x.2))

@@ -15,7 +15,6 @@ use Rattle.slot.specs.declared.Found.{Found}
 use Rattle.slot.specs.declared.Found.TheVariants.{At, Nothing}
 use Rattle.rules.specs.declared.answer.Outcome.TheVariants.{ToPeer}
 use Rattle.decisions.specs.declared.client.Asked.{Asked}
-use Rattle.decisions.specs.declared.client.Asked.TheVariants as Asked
 use Rattle.rules.specs.Change.{Change, keep, write, dropped, to_client, to_peer, out_of}
 use Rattle.decisions.specs.Client.{asked_by}
 use Rattle.decisions.proofs.Sizes.{Fits, allocate_fits, refresh_fits, create_permission_fits, channel_bind_fits, send_fits, channelled_fits, from_peer_fits}

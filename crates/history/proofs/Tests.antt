@@ -17,7 +17,6 @@ use Rattle.address.specs.Address.{same_address, same_transport_address, same_fiv
 use Rattle.address.proofs.Laws.{address_same, address_refl, transport_address_same, transport_address_refl, five_tuple_same, five_tuple_refl}
 use Rattle.slot.specs.declared.Permission.{Permission}
 use Rattle.slot.specs.declared.permissions.PermissionState.{PermissionState}
-use Rattle.slot.specs.declared.permissions.PermissionState.TheVariants as PermissionState
 use Rattle.slot.specs.declared.Channel.{Channel}
 use Rattle.slot.specs.declared.Slot.{Slot}
 use Rattle.slot.specs.declared.Found.{Found}

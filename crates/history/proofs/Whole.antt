@@ -15,7 +15,6 @@ use Rattle.address.specs.declared.TransportAddress.{TransportAddress}
 use Rattle.address.specs.declared.TransactionId.{TransactionId}
 use Rattle.slot.specs.declared.Slot.{Slot}
 use Rattle.slot.specs.declared.permissions.PermissionState.{PermissionState}
-use Rattle.slot.specs.declared.permissions.PermissionState.TheVariants as PermissionState
 use Rattle.slot.specs.declared.Found.{Found}
 use Rattle.slot.specs.declared.Found.TheVariants.{At, Nothing}
 use Rattle.slot.specs.Search.{find, has, at_or}

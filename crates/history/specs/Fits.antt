@@ -30,7 +30,7 @@ pub record ChannelFits (channel : Channel) : Type 0 where
 -- 'with its eight permissions and eight channels beside them'
 pub record SlotFits (slot : Slot) : Type 0 where
   pub allocation : AllocationFits slot.allocation
-  pub transaction_id_lem : IdFits slot.transaction_id
+  pub transaction_id : IdFits slot.transaction_id
   pub eight_permissions : length slot.permissions ≡ 8
   pub permissions : (i : ℕ) → PermissionFits (permission_at slot.permissions i)
   pub eight_channels : length slot.channels ≡ 8

@@ -14,7 +14,6 @@ use Rattle.slot.specs.Slot.{fresh_channel, holds_port, leads_to}
 use Rattle.table.specs.Table.{in_slot, lapsed}
 use Rattle.rules.specs.declared.answer.Outcome.TheVariants.{ToClient}
 use Rattle.decisions.specs.declared.client.Asked.{Asked}
-use Rattle.decisions.specs.declared.client.Asked.TheVariants as Asked
 use Rattle.decisions.specs.Client.{asked_by}
 use Rattle.rules.specs.Values.{ipv4_of}
 use Rattle.allocation_rules.specs.Allocations.{repeats, allocate_code, seconds_left, refresh_code}

@@ -6,7 +6,7 @@ use address::{FiveTuple, TransactionId, TransportAddress};
 
 // A client's datagram: the time, the authenticated user (0: none), where the search for a port starts, the relay's IPv4 address, and the
 // 5-tuple that it came by.
-#[derive(Drop)]
+#[derive(Clone, Copy)]
 pub struct FromClient {
     pub time: u64,
     pub user: u32,
@@ -16,7 +16,7 @@ pub struct FromClient {
 }
 
 // A peer's datagram: the time, where it came from, the relay port that it came to, and an id for a Data indication.
-#[derive(Drop)]
+#[derive(Clone, Copy)]
 pub struct FromPeer {
     pub time: u64,
     pub source: TransportAddress,
@@ -24,7 +24,7 @@ pub struct FromPeer {
     pub id: TransactionId,
 }
 
-#[derive(Drop)]
+#[derive(Clone, Copy)]
 pub enum Call {
     Client(FromClient),
     Peer(FromPeer),

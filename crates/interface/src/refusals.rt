@@ -5,7 +5,7 @@ ghost use Rattle.interface.specs.Refusals.{lengths, refused_caller, refusal};
 use crate::incoming::{Call, time_of};
 
 // The lengths that refusals look at.
-#[derive(Drop)]
+#[derive(Clone, Copy)]
 pub struct Lengths {
     pub slots: usize,
     pub datagram: usize,

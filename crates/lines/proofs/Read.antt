@@ -10,8 +10,7 @@ use borrow.Author.Rules.{part_to_end}
 use borrow.Author.Tests.{leb-true, lt-ltb, le-ltb, eq-eqb, ne_eqb}
 use lib.ListN.{length, get_or, take, drop, length-drop}
 use lib.Seq.{take_all, take-append_seam, slice}
-use Rattle.bytes.specs.Bytes.{index_of}
-use Rattle.bytes.specs.Bytes as bytes
+use Rattle.text.specs.Scan.{index_of}
 use Rattle.choice.specs.Choice.{pick, both, lookup}
 use Rattle.choice.proofs.Laws.{lookup-none, NoneAfter}
 use Rattle.text.specs.declared.Parsed.{Parsed}
@@ -30,10 +29,10 @@ use Rattle.lines.specs.Lines.{Line, bad, asks, call_from_client, call_from_peer,
 
 -- ---- Fields
 
-pub end_is : (l : List ℕ) {r : ℕ} → r ≡ 0 + index_of 9 (bytes.slice 0 (length l) l) → r ≡ field_end l
-unfolding field_end bytes.slice
+pub end_is : (l : List ℕ) {r : ℕ} → r ≡ 0 + index_of 9 (slice 0 (length l) l) → r ≡ field_end l
+unfolding field_end slice
 end_is l e =
-    let q : index_of 9 (bytes.slice 0 (length l) l) ≡ index_of 9 l = ap (index_of 9) (take_all (length l) l (omega arith)) in
+    let q : index_of 9 (slice 0 (length l) l) ≡ index_of 9 l = ap (index_of 9) (take_all (length l) l (omega arith)) in
     omega (arith, e, q)
 
 pub after_part : (l : List ℕ) (n : ℕ) → take (length l - (n + 1)) (drop (n + 1) l) ≡ drop (suc n) l

@@ -5,11 +5,11 @@ ghost use Rattle.lines.specs.Fields.{field_end, at_most, is_number, value_of, is
 ghost use Rattle.lines.specs.Inner.{NumberAt, AddressAt};
 
 use address::Address;
-use bytes::scan::find;
+use text::scan::find;
 use text::{Parsed, is_hex, read_decimal, read_hex_word};
 
 // A field that has to be a number: whether it is one within its bound, the number, whether a tab follows, and where the field ends.
-#[derive(Drop)]
+#[derive(Clone, Copy)]
 pub struct NumberField {
     pub good: bool,
     pub value: u64,
@@ -18,7 +18,7 @@ pub struct NumberField {
 }
 
 // A field that has to be an address.
-#[derive(Drop)]
+#[derive(Clone, Copy)]
 pub struct AddressField {
     pub good: bool,
     pub address: Address,

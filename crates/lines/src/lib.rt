@@ -1,4 +1,6 @@
 // A line read: the call that it asks for, with the datagram's bytes put at the front of a lent buffer; or that it is of neither form.
+#![tactic(auto)]
+
 ghost use Rattle.std.specs.Prelude.{◌≡◌, ◌≤◌, length};
 ghost use Rattle.lines.specs.Lines.{call_from_client, call_from_peer, with_datagram, client_line, peer_line, line_of};
 ghost use Rattle.lines.specs.Inner.{is_bad, call_in, length_in, Reads};
@@ -17,7 +19,7 @@ const SERVER: u32 = 3405803781;
 const SERVER_PORT: u16 = 3478;
 
 // What a line is: a call with a datagram of so many bytes, or of neither form.
-#[derive(Drop)]
+#[derive(Clone, Copy)]
 pub enum ReadLine {
     Bad,
     Asks { call: Call, len: usize },

@@ -8,7 +8,7 @@ use slot::channels::channel_is_live;
 use slot::permissions::permission_is_live;
 use slot::{Allocation, Channel, Permission};
 
-#[derive(Drop)]
+#[derive(Clone, Copy)]
 pub enum Field {
     // A letter or a newline.
     Byte(u8),

@@ -1,5 +1,7 @@
 // The listing of what is live, in two passes over the lent slots: how long it is, and then its lines. The work of one slot is by
 // value, in the modules.
+#![tactic(auto)]
+
 ghost use Rattle.std.specs.Prelude.{◌≡◌, ◌++◌, ◌≤◌, length, drop};
 ghost use Rattle.listing.specs.Listing.{listing, Lists};
 
@@ -13,7 +15,7 @@ pub mod puts;
 pub mod sizes;
 
 // What a listing answers: a refusal, or how long it is.
-#[derive(Drop)]
+#[derive(Clone, Copy)]
 pub enum Listed {
     Refused(u8),
     Length(usize),

@@ -1,5 +1,7 @@
 // Writes every message that the relay sends. Each attribute writer gets the part of the reply that starts after the attributes already
 // written, and writes its value's numbers at their places in that part; each message says its exact bytes (specs/Messages.antt) and how many, and leaves the rest of the reply as it was.
+#![tactic(auto)]
+
 ghost use Rattle.std.specs.Prelude.{◌≡◌, ◌≤◌, ◌*◌, length, take};
 ghost use Rattle.address.specs.declared.TransactionId.{TransactionId};
 ghost use Rattle.address.specs.declared.Address.TheVariants.{V4, V6};

@@ -18,7 +18,7 @@ use stun::kinds::Method;
 use stun::values::{AddressValue, channel_number, first_peer, transaction_id};
 
 // The slot with the permission and the channel, and whether there was room for each.
-#[derive(Drop)]
+#[derive(Clone, Copy)]
 pub struct Bound {
     pub permitted: bool,
     pub bound: bool,

@@ -1,4 +1,6 @@
 // CreatePermission and ChannelBind, by value: from a lent datagram and the slot that was found, the outcome, the slot and the reply.
+#![tactic(auto)]
+
 pub mod channels;
 pub mod denials;
 pub mod permissions;

@@ -10,7 +10,6 @@ use borrow.Author.Tests.{eqb-true, ltb-false, not-true, not-false}
 use Rattle.choice.specs.Choice.{pick}
 use Rattle.slot.specs.declared.Slot.{Slot}
 use Rattle.slot.specs.declared.Found.{Found}
-use Rattle.slot.specs.declared.Found.TheVariants.{Nothing}
 use Rattle.slot.specs.Search.{find, has}
 use Rattle.slot.specs.Slot.{holds, holds_port}
 use Rattle.table.specs.Table.{in_slot, lapsed}
@@ -21,7 +20,6 @@ use Rattle.table.proofs.Laws.{found_within, own_within, place_there}
 use Rattle.rules.specs.declared.answer.Answer.{Answer}
 use Rattle.rules.specs.declared.answer.Outcome.{Outcome}
 use Rattle.decisions.specs.declared.client.Asked.{Asked}
-use Rattle.decisions.specs.declared.client.Asked.TheVariants as Asked
 use Rattle.rules.specs.Change.{Out, Change, keep, write, out_of, outcome_of, reply_after}
 use Rattle.rules.specs.Inner.{writes, slot_after, Answers}
 use Rattle.decisions.specs.Client.{asked_by}
@@ -37,7 +35,7 @@ use Rattle.state.specs.Outcomes.{Does}
 use Rattle.interface.specs.Refusals.{time_of, lengths, refusal}
 use Rattle.decisions.specs.Decisions.{names_denied, on_asked, decided}
 use Rattle.state.specs.Step.{done, accepted}
-use Rattle.decisions.specs.Inner.{asking_of, Ready, asked_for, wanted_by, saw, placeFor, place_in, unwritten}
+use Rattle.decisions.specs.Inner.{asking_of, Ready, asked_for, wanted_by, saw, place_for, place_in, unwritten}
 use Rattle.relay.specs.Inner.{Begun, Saw, LookedFor, WroteBack, Answered, DoesAccepted}
 use Rattle.decisions.proofs.Laws.{decided-writes}
 use Rattle.state.proofs.Laws.{kept_done, written-done, does}
@@ -92,7 +90,7 @@ saw_asked a l = record { asked = l.asked_is ∙ a; looked = l.looked }
 
 -- the place of the slot that is written is the one that was decided about; only a request writes one
 asked_place : (denied : Bool) (call : FromClient) (s : List ℕ) (slots : List Slot) (asked : Asked) {survey : Survey} → Looked slots (wanted_by (Client call) asked) survey
-    → (slot : Slot) (out : Out) → (on_asked denied call s slots asked).change ≡ write slot out → placeFor asked survey ≡ (on_asked denied call s slots asked).place
+    → (slot : Slot) (out : Out) → (on_asked denied call s slots asked).change ≡ write slot out → place_for asked survey ≡ (on_asked denied call s slots asked).place
 unfolding keyed
 asked_place denied call s slots Asked.Allocate l slot out e = (l.room refl).free
 asked_place denied call s slots Asked.Refresh l slot out e = l.own
@@ -103,10 +101,10 @@ asked_place denied call s slots Asked.ChannelData l slot out e = kept_not_writte
 asked_place denied call s slots Asked.Nothing l slot out e = kept_not_written e
 
 places : (denied : Bool) (call : Call) (s : List ℕ) (slots : List Slot) {asked : Asked} {survey : Survey} → asked ≡ asked_for call s → Looked slots (wanted_by call asked) survey
-    → (slot : Slot) (out : Out) → (decided denied call s slots).change ≡ write slot out → placeFor asked survey ≡ (decided denied call s slots).place
+    → (slot : Slot) (out : Out) → (decided denied call s slots).change ≡ write slot out → place_for asked survey ≡ (decided denied call s slots).place
 unfolding decided
 places denied (Client call) s slots {asked} {survey} a l slot out e =
-    subst (λ (x : Asked). placeFor x survey ≡ (on_asked denied call s slots (asked_by s)).place) (sym a)
+    subst (λ (x : Asked). place_for x survey ≡ (on_asked denied call s slots (asked_by s)).place) (sym a)
     (asked_place denied call s slots (asked_by s) (subst (λ (x : Asked). Looked slots (wanted_by (Client call) x) survey) a l) slot out e)
 places denied (Peer call) s slots a l slot out e = kept_not_written e
 
@@ -164,17 +162,17 @@ module _ (slots : List Slot) (denied : Bool) (call : Call) (s reply : List ℕ) 
     what : Writing (decided denied call s slots).change
     what = writing (decided denied call s slots).change w.writes y
 
-    placed : placeFor asked survey ≡ (decided denied call s slots).place
+    placed : place_for asked survey ≡ (decided denied call s slots).place
     placed = places denied call s slots a looked what.slot what.out what.is
 
-    there : has (placeFor asked survey) ≡ true
+    there : has (place_for asked survey) ≡ true
     there = ap has placed ∙ decided-writes denied call s slots what.slot what.out what.is
 
-    put_within : {k : ℕ} → k ≡ place_of (placeFor asked survey) → k < length slots
+    put_within : {k : ℕ} → k ≡ place_of (place_for asked survey) → k < length slots
     put_within {k} p =
-        place_there slots (placeFor asked survey) refl there p (subst (λ (x : Found). Within x (length slots)) (sym placed) (decided_within denied call s slots))
+        place_there slots (place_for asked survey) refl there p (subst (λ (x : Found). Within x (length slots)) (sym placed) (decided_within denied call s slots))
 
-    written_step : (kept : Bookkeeping) → names_denied kept.denied call s ≡ denied → {k : ℕ} → k ≡ place_of (placeFor asked survey)
+    written_step : (kept : Bookkeeping) → names_denied kept.denied call s ≡ denied → {k : ℕ} → k ≡ place_of (place_for asked survey)
         → Does (accepted (state slots kept) call s) (state slots kept) answer.outcome (state (set slots k answer.slot) (at_clock (time_of call) kept)) reply reply'
     unfolding accepted
     written_step kept t {k} p =
@@ -184,7 +182,7 @@ module _ (slots : List Slot) (denied : Bool) (call : Call) (s reply : List ℕ) 
         (does (with_slots (set slots k what.slot) st) what.out
         (ap (λ (x : Change). done st (decided denied call s slots).place x) what.is
         ∙ ap (λ (x : Found). done st x (write what.slot what.out)) (sym placed)
-        ∙ written-done st (placeFor asked survey) what.slot what.out there p)
+        ∙ written-done st (place_for asked survey) what.slot what.out there p)
         (w.gives.outcome_is ∙ ap (λ (x : Change). outcome_of (out_of x)) what.is)
         (ap (λ (x : Slot). state (set slots k x) (at_clock (time_of call) kept)) same)
         (w.gives.reply_is ∙ ap (λ (x : Change). reply_after reply (out_of x)) what.is))

@@ -1,6 +1,8 @@
-// The relay's public entries, over the sixty_four slots lent as a slice of records, what the relay keeps beside them as one lent struct,
+// The relay's public entries, over the sixty-four slots lent as a slice of records, what the relay keeps beside them as one lent struct,
 // and the datagram and the reply as lent bytes. Every decision is by value, in the crates below; here the slots are looked over, one is
 // read, and it is written back where it changed.
+#![tactic(auto)]
+
 ghost use Rattle.std.specs.Prelude.{◌≡◌, true, false, ◌<◌, length};
 ghost use Rattle.slot.specs.Search.{at_or, has};
 ghost use Rattle.slot.specs.Slot.{fresh_slot};
@@ -186,7 +188,7 @@ pub fn relay_datagram(
 }
 
 // The state after a call, and its outcome, where the state is held by value.
-#[derive(Drop)]
+#[derive(Clone, Copy)]
 pub struct Held {
     pub slots: [Slot; 64],
     pub bookkeeping: Bookkeeping,

@@ -10,7 +10,7 @@ use stun::kinds::Method;
 use stun::message::unknown_types;
 use stun::values::transaction_id;
 
-#[derive(Drop)]
+#[derive(Clone, Copy)]
 pub enum Outcome {
     Refused(u8),
     // A drop has one of three causes: a missing permission alone, which has lapsed or never was; or another.
@@ -32,7 +32,7 @@ pub enum Outcome {
 }
 
 // What a rule decides: the outcome, whether it writes a slot, and the slot that it was about as it leaves it.
-#[derive(Drop)]
+#[derive(Clone, Copy)]
 pub struct Answer {
     pub outcome: Outcome,
     pub writes: bool,

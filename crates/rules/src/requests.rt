@@ -8,7 +8,7 @@ use address::FiveTuple;
 use slot::Slot;
 
 // What a client's call brings beside its datagram.
-#[derive(Drop)]
+#[derive(Clone, Copy)]
 pub struct ClientCall {
     pub time: u64,
     pub user: u8,

@@ -8,7 +8,7 @@ use stun::message::unknown_types;
 use stun::values::{AddressValue, NumberValue};
 
 // What CreatePermission looks each of its peer addresses over for.
-#[derive(Drop)]
+#[derive(Clone, Copy)]
 pub enum PeerFault {
     Malformed,
     Ipv6,

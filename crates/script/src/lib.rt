@@ -1,5 +1,7 @@
 // One line of the call program, over lent bytes: it is read, the relay is called, and the answer is written. A line of neither form
 // changes nothing.
+#![tactic(auto)]
+
 ghost use Rattle.std.specs.Prelude.{◌≡◌, ◌≤◌, length, take};
 ghost use Rattle.interface.specs.Sending.{sent};
 ghost use Rattle.state.specs.State.{state};

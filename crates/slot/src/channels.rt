@@ -12,7 +12,7 @@ use address::{TransportAddress, same_transport_address};
 use choice::both;
 
 // What a search of the channels looks for: one that is live with a number, one that is live for a peer, or one that isn't live.
-#[derive(Drop)]
+#[derive(Clone, Copy)]
 enum ChannelWanted {
     Number(u16),
     To(TransportAddress),

@@ -1,6 +1,8 @@
 // The records of the relay's state, and the searches in one slot, all by value. A slot is what an allocation has: the allocation
 // itself, the transaction id of the Allocate that made it, its permissions and its channels. Nothing here knows of the table that the
 // slots are in.
+#![tactic(auto)]
+
 ghost use Rattle.std.specs.Prelude.{◌≡◌};
 ghost use Rattle.slot.specs.Search.{has, or_else};
 ghost use Rattle.slot.specs.Slot.{live, fresh_transport_address, fresh_transaction_id, fresh_slot, with_allocation, with_transaction_id, with_permissions, with_channels};
@@ -16,14 +18,14 @@ pub mod permissions;
 pub mod ports;
 
 // An IP address that may send to the client and be sent to, at any port.
-#[derive(Drop)]
+#[derive(Clone, Copy)]
 pub struct Permission {
     pub address: Address,
     pub expiry: u64,
 }
 
 // A number that stands for a peer, in ChannelData.
-#[derive(Drop)]
+#[derive(Clone, Copy)]
 pub struct Channel {
     pub number: u16,
     pub peer: TransportAddress,
@@ -31,7 +33,7 @@ pub struct Channel {
 }
 
 // Whose the slot is, and its relay port: what every lookup over the slots reads.
-#[derive(Drop)]
+#[derive(Clone, Copy)]
 pub struct Allocation {
     pub user: u8,
     pub five_tuple: FiveTuple,
@@ -39,7 +41,7 @@ pub struct Allocation {
     pub expiry: u64,
 }
 
-#[derive(Drop)]
+#[derive(Clone, Copy)]
 pub struct Slot {
     pub allocation: Allocation,
     // The transaction id of the Allocate that made it. No lookup over the slots reads it.
@@ -49,14 +51,14 @@ pub struct Slot {
 }
 
 // What a search finds: the place of an entry, or nothing.
-#[derive(Drop)]
+#[derive(Clone, Copy)]
 pub enum Found {
     At(usize),
     Nothing,
 }
 
 // The slot after an entry was taken. `ok` is false where there is no room, and the slot then is as it was.
-#[derive(Drop)]
+#[derive(Clone, Copy)]
 pub struct Placed {
     pub ok: bool,
     pub slot: Slot,

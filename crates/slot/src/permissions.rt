@@ -9,7 +9,7 @@ use address::{Address, same_address};
 use choice::both;
 
 // What the permissions say of an IP address: one is live for it, or one was, or there is none for it.
-#[derive(Drop)]
+#[derive(Clone, Copy)]
 pub enum PermissionState {
     Live,
     Lapsed,
@@ -17,7 +17,7 @@ pub enum PermissionState {
 }
 
 // What a search of the permissions looks for: one that is live for an IP address, or one that isn't live.
-#[derive(Drop)]
+#[derive(Clone, Copy)]
 enum PermissionWanted {
     For(Address),
     Free,

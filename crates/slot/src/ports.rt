@@ -2,7 +2,7 @@
 ghost use Rattle.std.specs.Prelude.{◌≡◌, true, false, ℕ, ◌<◌, get_or, set};
 ghost use Rattle.slot.specs.Inner.{bits_of, held_in};
 
-#[derive(Drop)]
+#[derive(Clone, Copy)]
 pub struct Ports {
     // Bit k is the port 49152 + k.
     pub low: u64,

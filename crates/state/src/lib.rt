@@ -1,5 +1,7 @@
 // The relay's state: the slots, and what is kept beside them. One step over it is a definition (specs/Step.antt), with its laws in proofs/; the
 // functions that take the step are the relay's.
+#![tactic(auto)]
+
 ghost use Rattle.std.specs.Prelude.{◌≡◌};
 ghost use Rattle.state.specs.State.{fresh_bookkeeping, at_clock, denying};
 
@@ -7,7 +9,7 @@ use denied::read_denied;
 use denied::tree::none_denied;
 
 // The clock, the time of the last call that was not refused; and the tree of denied prefixes, which no call changes.
-#[derive(Drop)]
+#[derive(Clone, Copy)]
 pub struct Bookkeeping {
     pub clock: u64,
     pub denied: [u16; 1536],
@@ -28,7 +30,7 @@ pub fn set_clock(bookkeeping: &mut Bookkeeping, time: u64)
 }
 
 // What became of a text of denied prefixes: the number that it is refused with, or 0; how many nodes its tree has; and what is kept afterwards.
-#[derive(Drop)]
+#[derive(Clone, Copy)]
 pub struct Denying {
     pub number: u8,
     pub count: usize,

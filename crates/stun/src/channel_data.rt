@@ -15,7 +15,7 @@ pub fn sort(s: &[u8]) -> Class
     Class::of(s[0])
 }
 
-#[derive(Drop)]
+#[derive(Clone, Copy)]
 pub enum ChannelMessage {
     // The channel's number, and where the data lies in the datagram.
     Data {

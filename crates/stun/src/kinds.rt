@@ -3,7 +3,7 @@ ghost use Rattle.std.specs.Prelude.{◌≡◌};
 ghost use Rattle.stun.specs.Kinds.{class_of, message_kind_of, attribute_kind_of, unknown_kind, success_type, error_type};
 
 // What the first byte says of a datagram.
-#[derive(Drop)]
+#[derive(Clone, Copy)]
 pub enum Class {
     Stun,
     ChannelData,
@@ -23,7 +23,7 @@ impl Class {
 }
 
 // The methods that a client requests.
-#[derive(Drop)]
+#[derive(Clone, Copy)]
 pub enum Method {
     Allocate,
     Refresh,
@@ -55,7 +55,7 @@ impl Method {
     }
 }
 
-#[derive(Drop)]
+#[derive(Clone, Copy)]
 pub enum MessageKind {
     Request(Method),
     Success(Method),
@@ -119,7 +119,7 @@ impl MessageKind {
     }
 }
 
-#[derive(Drop)]
+#[derive(Clone, Copy)]
 pub enum AttributeKind {
     ChannelNumber,
     Lifetime,

@@ -1,5 +1,7 @@
 // Reads STUN messages and ChannelData in a lent datagram (RFC 8489, RFC 8656): the kinds of messages and attributes, the header and
 // the walk over the attributes, the values of attributes, and ChannelData. Nothing here writes or keeps anything.
+#![tactic(auto)]
+
 pub mod channel_data;
 pub mod kinds;
 pub mod message;

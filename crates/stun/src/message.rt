@@ -6,7 +6,7 @@ ghost use Rattle.stun.specs.Inner.{Next, unknowns};
 use crate::kinds::AttributeKind;
 use wire::{u16_at, u32_at};
 
-#[derive(Drop)]
+#[derive(Clone, Copy)]
 pub struct Attribute {
     pub number: u16,
     // Where the value starts in the datagram, and its length without padding.
@@ -15,7 +15,7 @@ pub struct Attribute {
 }
 
 // What stands at a position among the attributes.
-#[derive(Drop)]
+#[derive(Clone, Copy)]
 pub enum Step {
     // An attribute that fits whole, and where the next one starts.
     One { attribute: Attribute, next: usize },
@@ -104,7 +104,7 @@ fn is_unknown(number: u16) -> bool
 }
 
 // The next attribute that is read.
-#[derive(Drop)]
+#[derive(Clone, Copy)]
 pub enum Reading {
     One { attribute: Attribute, next: usize },
     Done,
@@ -128,7 +128,7 @@ pub(crate) fn next_attribute(s: &[u8], at: usize) -> Reading
 }
 
 // Where the value of an attribute lies.
-#[derive(Drop)]
+#[derive(Clone, Copy)]
 pub enum ValuePlace {
     Value { start: usize, len: usize },
     Absent,
@@ -159,7 +159,7 @@ pub fn first_attribute(s: &[u8], number: u16) -> ValuePlace
 }
 
 // The first 16 unknown types as met, repeats kept: the first `count` of `types`.
-#[derive(Drop)]
+#[derive(Clone, Copy)]
 pub struct UnknownTypes {
     pub types: [u16; 16],
     pub count: usize,

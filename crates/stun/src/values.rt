@@ -24,7 +24,7 @@ pub fn transaction_id(s: &[u8]) -> TransactionId
 // ---- Address values
 
 // An address value: whether it is well formed, and the peer that it names.
-#[derive(Drop)]
+#[derive(Clone, Copy)]
 pub struct AddressValue {
     pub well_formed: bool,
     pub peer: TransportAddress,
@@ -96,7 +96,7 @@ pub fn address_at(s: &[u8], at: usize, len: usize) -> AddressValue
 }
 
 // The next XOR-PEER-ADDRESS.
-#[derive(Drop)]
+#[derive(Clone, Copy)]
 pub enum PeerReading {
     One { value: AddressValue, next: usize },
     Done,
@@ -140,7 +140,7 @@ pub fn first_peer(s: &[u8]) -> AddressValue
 // ---- Numbers of four bytes
 
 // In how many of a value's four bytes the number is.
-#[derive(Drop)]
+#[derive(Clone, Copy)]
 pub enum Width {
     One,
     Two,
@@ -158,7 +158,7 @@ fn number_at(s: &[u8], at: usize, width: Width) -> u32
     }
 }
 
-#[derive(Drop)]
+#[derive(Clone, Copy)]
 pub enum NumberValue {
     Number(u32),
     // Present, and not of 4 bytes.

@@ -7,7 +7,7 @@ use slot::Allocation;
 use slot::allocations::{holds, holds_port};
 
 // The 5-tuple of a client, or a relay port.
-#[derive(Drop)]
+#[derive(Clone, Copy)]
 pub enum Key {
     Client(FiveTuple),
     Port(u16),
@@ -24,7 +24,7 @@ pub(crate) fn matches(time: u64, key: Key, allocation: Allocation) -> bool
 }
 
 // The live slot of a key at that time; and where an allocation is to be made, the room that there is for that user.
-#[derive(Drop)]
+#[derive(Clone, Copy)]
 pub struct Wanted {
     pub time: u64,
     pub key: Key,

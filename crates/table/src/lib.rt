@@ -1,5 +1,7 @@
 // The table's slots, lent as a slice. Only the functions of this file touch that memory, one slot at a time; every decision is by
 // value, in the modules.
+#![tactic(auto)]
+
 ghost use Rattle.std.specs.Prelude.{◌≡◌, ◌<◌, length, set};
 ghost use Rattle.table.specs.Table.{slot_at};
 ghost use Rattle.table.specs.Inner.{searched, Surveyed, Looked};

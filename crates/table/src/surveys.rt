@@ -9,7 +9,7 @@ use slot::allocations::{allocation_is_live, holds_user};
 use slot::ports::{Ports, no_ports, with_port};
 use slot::{Allocation, Found, or_else};
 
-#[derive(Drop)]
+#[derive(Clone, Copy)]
 pub struct Survey {
     // The lowest live slot of the key.
     pub own: Found,

@@ -14,8 +14,7 @@ use borrow.Author.Tests.{lt-ltb, le-ltb, le-leb, lt-leb, eq-eqb, ne_eqb, ltb-tru
 use borrow.Rule.Slice.PartMut.{mid_of, put_mid}
 use Rattle.choice.specs.Choice.{pick, both}
 use Rattle.choice.proofs.Laws.{both_parts, both_no, both_yes}
-use Rattle.bytes.specs.Bytes as bytes
-use Rattle.bytes.specs.Bytes.{index_of, index_after}
+use Rattle.text.specs.Scan.{index_of, index_after}
 use Rattle.wire.specs.Inner.{Wrote}
 use Rattle.wire.proofs.Laws.{wrote_then}
 use Rattle.address.specs.declared.Address.{Address}
@@ -531,13 +530,27 @@ module _ {s : List ℕ} {from to : ℕ} {d l : List ℕ} {k : ℕ} (r : Filling 
       let all : hex_bytes_of t ≡ r.read = r.front ∙ rw (none, append-nil) in
       record { answer = rw (r.good, n); is = rw (r.good, all, r.count) r.is }
 
+-- ---- a search for a byte, one after another
+module _ (a : List ℕ) (b i to : ℕ) (l : i < to) (h : to ≤ length a) where
+  pub index_here : get_or a i 0 ≡ b → index_of b (slice i to a) ≡ 0
+  unfolding index_of index_after
+  index_here e = rw (slice-cons i to a 0 l h, eq-eqb (get_or a i 0) b e)
+
+  pub index_on : (get_or a i 0 ≡ b → ⊥) → index_of b (slice i to a) ≡ suc (index_of b (slice (suc i) to a))
+  unfolding index_of index_after
+  index_on other = rw (slice-cons i to a 0 l h, ne_eqb (get_or a i 0) b other)
+
+pub index_end : (a : List ℕ) (b i to : ℕ) → i ≡ to → index_of b (slice i to a) ≡ 0
+unfolding index_of
+index_end a b i to e = rw (e, slice_empty to a)
+
 -- ---- a search for a byte, sixteen at once
 module _ (a : List ℕ) (start b : ℕ) where
   pub past_none : Past a start 0 b
   past_none to l h = rw (zero-add, let e : start + 0 ≡ start = omega arith in e)
 
   past_next : (i : ℕ) → Past a start i b → (get_or a (start + i) 0 ≡ b → ⊥) → Past a start (i + 1) b
-  unfolding bytes.slice index_of index_after
+  unfolding slice index_of index_after
   past_next i before other to l h =
       let e : suc (start + i) ≡ start + (i + 1) = omega arith in
       let one : index_of b (slice (start + i) to a) ≡ suc (index_of b (slice (suc (start + i)) to a)) =
@@ -552,6 +565,6 @@ module _ (a : List ℕ) (start b : ℕ) where
       past_next i (before ts.0) (eqb-false (get_or a (start + i) 0) b (not-true _ ts.1))
 
   -- a search that has come to `start` goes on behind what it is past
-  pub past_all : (n : ℕ) {to found : ℕ} → found ≡ start + index_of b (bytes.slice start to a) → Past a start n b → start + n ≤ to → to ≤ length a
-      → found ≡ start + n + index_of b (bytes.slice (start + n) to a)
+  pub past_all : (n : ℕ) {to found : ℕ} → found ≡ start + index_of b (slice start to a) → Past a start n b → start + n ≤ to → to ≤ length a
+      → found ≡ start + n + index_of b (slice (start + n) to a)
   past_all n {to} e past l h = e ∙ ap (λ (m : ℕ). start + m) (past to l h) ∙ sym (add_assoc start n _)

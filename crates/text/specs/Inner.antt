@@ -1,7 +1,8 @@
 -- What the functions inside this crate and those of the crates above promise each other. No public statement rests on it.
 use Rattle.std.specs.Prelude.{ℕ, ◌+◌, ◌≤◌, ◌≡◌, List, ◌++◌, length, drop}
 use Rattle.choice.specs.Choice.{pick}
-use Rattle.bytes.specs.Bytes.{index_of, slice}
+use Rattle.std.proofs.Math.Seq.{slice}
+use Rattle.text.specs.Scan.{index_of}
 use Rattle.text.specs.declared.Parsed.{Parsed}
 use Rattle.text.specs.declared.Parsed.TheVariants.{Number, Nothing}
 use Rattle.text.specs.Text.{is_hex, hex_bytes_of}

@@ -1,5 +1,7 @@
 // Numbers, addresses and bytes as text: decimal without leading zeros, and lower hex. Each is written at the front of lent bytes, and
 // read from a part of lent bytes.
+#![tactic(auto)]
+
 ghost use Rattle.std.specs.Prelude.{◌≡◌, ◌+◌, ◌-◌, ◌*◌, ◌/◌, ◌<◌, ◌≤◌, leb, ltb, length};
 ghost use Rattle.std.proofs.Math.Seq.{slice};
 ghost use Rattle.address.specs.declared.Address.TheVariants.{V6};
@@ -135,7 +137,7 @@ pub fn put_hex_bytes(out: &mut [u8], v: &[u8])
 // ---- Read
 
 // A number that was read, or that the text is none.
-#[derive(Drop)]
+#[derive(Clone, Copy)]
 pub enum Parsed {
     Number(u64),
     Nothing,

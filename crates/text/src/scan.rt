@@ -1,9 +1,9 @@
-// The search for a byte in a part of lent bytes, sixteen of them at once.
+// The search for a byte in a part of lent bytes, one at a time or sixteen at once.
 ghost use Rattle.std.specs.Prelude.{◌≡◌, true, ◌+◌, ◌≤◌, length};
-ghost use Rattle.bytes.specs.Bytes.{index_of, slice};
+ghost use Rattle.std.proofs.Math.Seq.{slice};
+ghost use Rattle.text.specs.Scan.{index_of};
 ghost use Rattle.text.specs.Inner.{Past};
 
-use bytes::scan::find;
 use choice::both;
 
 const BLOCK: usize = 16;
@@ -22,7 +22,22 @@ fn is_past(a: &[u8], start: usize, b: u8) -> bool
     past
 }
 
-// The place of the first b from `from` on and before `to`, or `to` where there is none.
+// The place of the first b from `from` on and before `to`, or `to` where there is none: one byte after another.
+pub fn find(a: &[u8], from: usize, to: usize, b: u8) -> usize
+    requires { (from ≤ to) × (to ≤ length a.now) }
+    ensures { (result ≡ from + index_of b (slice from to a.now)) × (result ≤ to) }
+{
+    let mut i = from;
+    while i < to {
+        if a[i] == b {
+            return i;
+        }
+        i += 1;
+    }
+    to
+}
+
+// The same, sixteen bytes at once.
 pub fn find_far(a: &[u8], from: usize, to: usize, b: u8) -> usize
     requires { (from ≤ to) × (to ≤ length a.now) }
     ensures { (result ≡ from + index_of b (slice from to a.now)) × (result ≤ to) }

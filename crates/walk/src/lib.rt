@@ -1,1 +1,4 @@
-// What walks are made of: proofs of functions that handle lent slices of structs. It is all in proofs/; there is no code here.
+#![tactic(auto)]
+
+// What walks are made of: proofs by hand of functions that handle lent slices of structs. It is all in proofs/; there is no code here. Today's
+// check writes such proofs itself, so that nothing cites these laws any more.

@@ -1,5 +1,7 @@
 // Numbers in network order, read at any place of lent bytes and written at their front; XOR; a run of bytes copied; zeros.
 // Each writer gets the part of a buffer that starts after what is written already, and leaves the bytes behind its own as they were.
+#![tactic(auto)]
+
 ghost use Rattle.std.specs.Prelude.{◌≡◌, ◌+◌, ◌≤◌, length, replicate};
 ghost use Rattle.std.specs.Int.Bits.{bit_xor};
 ghost use Rattle.wire.specs.Wire.{num, bytes_of, part_of};
@@ -93,7 +95,7 @@ pub fn put_bytes(out: &mut [u8], v: &[u8])
     requires { length v.now ≤ length out.old }
     ensures { Wrote v.now out.old out.new }
 {
-    bytes::copy(v, out);
+    out[..v.len()].copy_from_slice(v);
 }
 
 // n zeros.

@@ -1,0 +1,6 @@
+-- proofs/copy_within/Invariants.antt
+use Rattle.std.proofs.Common.{◌-◌}
+use Rattle.calls.proofs.copy_within.Given as goal
+
+abbrev pub decreases-loop-i : goal.decreases-loop-i
+decreases-loop-i l = l.n - l.i

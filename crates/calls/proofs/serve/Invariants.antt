@@ -1,0 +1,5 @@
+-- proofs/serve/Invariants.antt
+use Rattle.calls.proofs.serve.Given as goal
+
+abbrev pub decreases-loop-turns : goal.decreases-loop-turns
+decreases-loop-turns g l = l.turns

@@ -1,0 +1,19 @@
+use mathlib.Core.Path.{refl}
+use Rattle.allocation_rules.specs.Allocations.{allocate}
+use Rattle.decisions.proofs.Laws.{surveyed, own-slot-answers}
+use Rattle.decisions.proofs.answer_allocate.Goals as goal
+
+pub client_call-requires : goal.client_call-requires
+client_call-requires c = c.requires.0.user
+
+pub allocate-requires : goal.allocate-requires
+allocate-requires c = rw c.client_call.ensures (c.requires.1, c.requires.0.room, c.requires.0.soon)
+
+pub returns : goal.returns
+returns c = λ slots l e.
+    rw (
+      ← surveyed c.args.call (l.room refl) c.has.ensures c.has-2.ensures c.port_for.ensures,
+      ← c.client_call.ensures,
+    )
+    (own-slot-answers c.args.call (allocate c.client_call.result c.args.datagram.now _)
+    c.allocate.ensures slots l e)

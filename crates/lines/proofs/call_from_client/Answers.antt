@@ -1,0 +1,6 @@
+use Rattle.lines.specs.Lines.{call_from_client}
+use Rattle.lines.proofs.call_from_client.Goals as goal
+
+pub returns : goal.returns
+unfolding call_from_client
+returns c = rw (← c.call_of_client.ensures)

@@ -1,0 +1,24 @@
+use mathlib.Core.Path.{refl, sym, ◌∙◌}
+use Rattle.table.proofs.Laws.{else_none, surveyed_lapsed, surveyed_live}
+use Rattle.table.proofs.surveys.surveyed_with.Goals as goal
+
+pub returns-then-not-allocation_is_live : goal.returns-then-not-allocation_is_live
+returns-then-not-allocation_is_live c = surveyed_lapsed (sym c.allocation_is_live.ensures ∙ c.if-not-allocation_is_live.true) refl refl c.or_else.ensures refl
+
+pub returns-then-not-matches : goal.returns-then-not-matches
+returns-then-not-matches c =
+    surveyed_live
+    (sym c.allocation_is_live.ensures ∙ c.if-not-allocation_is_live.false)
+    (rw (← c.matches.ensures, c.if-not-matches.true) (else_none _))
+    (rw (← c.holds_user.ensures) c.counted-held.ensures)
+    refl
+    c.mark-ports.ensures
+
+pub returns : goal.returns
+returns c =
+    surveyed_live
+    (sym c.allocation_is_live.ensures ∙ c.if-not-allocation_is_live.false)
+    (rw (← c.matches.ensures, c.if-not-matches.false) c.or_else-2.ensures)
+    (rw (← c.holds_user.ensures) c.counted-held.ensures)
+    refl
+    c.mark-ports.ensures
