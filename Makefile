@@ -8,13 +8,12 @@ CALLS ?= target/bin/calls
 N ?= 100
 
 test: relayd-test
-	rt fmt --check
 	tools/check-promises
 	tools/believed
 	tests/all
 
 run:
-	rt check calls
+	tools/build-calls
 	@echo
 	@echo "The calls of document 01's sample: a client allocates and permits a peer, which then sends twice."
 	@cat crates/calls/stdin
@@ -35,7 +34,7 @@ bench: $(CALLS)
 	@CALLS=$(CALLS) bench/instructions
 
 fmt:
-	rt fmt
+	@for crate in crates/*/; do (cd $$crate && rt fmt) || exit 1; done
 
 # The daemon stands outside the proof. Where there is no cargo, its tests are left out.
 relayd-test:
@@ -48,7 +47,7 @@ relayd:
 # The proved program, which relayd drives.
 calls: $(CALLS)
 target/bin/calls:
-	rt check calls
+	tools/build-calls
 
 # As root.
 bench-relayd: relayd $(CALLS)
