@@ -2,7 +2,7 @@
 // refusal, or `E`, is the only output.
 ghost use Rattle.std.specs.Prelude.{◌≡◌, ◌≤◌, length};
 
-use crate::read_behind;
+use input::read_full;
 use state::{Bookkeeping, deny, fresh_bookkeeping};
 use std::env::{Env, FillError};
 use std::fs::File;
@@ -61,21 +61,6 @@ fn no_file() -> ReadFile
         whole: false,
         length: 0,
     }
-}
-
-// Reads until the input is full, or no more comes; how many bytes came.
-fn read_full<F: Read>(file: &mut F, input: &mut [u8]) -> usize
-    ensures { result ≤ length input.old }
-{
-    let mut done = 0;
-    while done < input.len() {
-        let got = read_behind(file, input, done);
-        if got == 0 {
-            break;
-        }
-        done += got;
-    }
-    done
 }
 
 // The file's bytes, put at the front of the input. Where no more are left in the file, and none failed to be read, the next read has none.

@@ -12,6 +12,7 @@ ghost use Rattle.listing.specs.Listing.{listing};
 ghost use Rattle.listing.specs.Inner.{length_of};
 
 use denials::{begin, is_ready, kept_by};
+use input::read_behind;
 use listing::{Listed, list};
 use script::run_line;
 use slot::{Slot, fresh_slot};
@@ -87,17 +88,6 @@ fn copy_within(buffer: &mut [u8], from: usize, to: usize, n: usize)
 }
 
 // ---- What is read
-
-// Reads once, behind what is kept: how many bytes came. None at the end, and none where it fails.
-fn read_behind<R: Read>(reader: &mut R, input: &mut [u8], kept: usize) -> usize
-    requires { kept ≤ length input.old }
-    ensures { kept + result ≤ length input.old }
-{
-    match reader.read(&mut input[kept..]) {
-        Ok(got) => got,
-        Err(_) => 0,
-    }
-}
 
 // Of what is left of the input, how much is kept while more is read.
 fn kept_of(left: usize) -> usize

@@ -121,8 +121,8 @@ module _ (call : ClientCall) (s : List ℕ) (slot : Slot) (out : Out) where
         let q = answered _ _ s _ _ e in
         let owner = owns call s own was _ q.0 in
         let some_peer = passed (none (peers s)) 400 _ (some (omega arith)) owner.1 in
-        let is_well_formed_lem = passed _ 400 _ (some (omega arith)) some_peer.1 in
-        let ipv4 = passed (any ipv6_peer (peers s)) 443 _ (some (omega arith)) is_well_formed_lem.1 in
+        let well_formed = passed _ 400 _ (some (omega arith)) some_peer.1 in
+        let ipv4 = passed (any ipv6_peer (peers s)) 443 _ (some (omega arith)) well_formed.1 in
         let reachable = passed denied 403 _ (some (omega arith)) ipv4.1 in
         let room = passed (not (permit_all call.time (peers s) was was).ok) 508 0 (some (omega arith)) reachable.1 in
         record { owner = owner.0; some_peer = some_peer.0; all_ipv4 = ipv4.0; none-denied = reachable.0; room = not-false _ room.0; slot_is = cc; out_is = cc }

@@ -8,7 +8,7 @@ use lib.Dec.{eqb}
 use lib.ListN.{length, get_or, set, take, drop, drop_of_length-le, get_or-eq_default}
 use lib.Seq.{slice, take-length, drop-cons, drop-drop}
 use borrow.Author.Tests.{lt-ltb, le-ltb, ltb-true, leb-true, eq-eqb, ne_eqb}
-use Rattle.text.specs.Scan.{index_of, index_after}
+use Rattle.text.specs.Scan.{index_of}
 use Rattle.choice.specs.Choice.{pick}
 use Rattle.choice.proofs.Laws.{chosen, both_parts}
 use Rattle.text.specs.declared.Parsed.{Parsed}
@@ -114,10 +114,10 @@ module _ {answer : Grown} {nodes : List ℕ} {count node a rest bits : ℕ} (g :
 -- the first line goes up to the first newline
 first_line : (c : ℕ) (s : List ℕ)
     → lines_of (c ∷ s) ≡ take (index_of 10 (c ∷ s)) (c ∷ s) ∷ lines_of (drop (suc (index_of 10 (c ∷ s))) (c ∷ s))
-unfolding lines_of index_of index_after
+unfolding lines_of index_of
 first_line c [] = go (eqb c 10)
   where
-    go : (b : Bool) → pick b ([] ∷ []) ((c ∷ []) ∷ []) ≡ take (index_after b 0) (c ∷ []) ∷ lines_of (drop (suc (index_after b 0)) (c ∷ []))
+    go : (b : Bool) → pick b ([] ∷ []) ((c ∷ []) ∷ []) ≡ take (pick b 0 1) (c ∷ []) ∷ lines_of (drop (suc (pick b 0 1)) (c ∷ []))
     go true = refl
     go false = refl
 first_line c (d ∷ s) = go (eqb c 10) (first_line d s)
@@ -126,7 +126,7 @@ first_line c (d ∷ s) = go (eqb c 10) (first_line d s)
     l = d ∷ s
 
     go : (b : Bool) → lines_of l ≡ take (index_of 10 l) l ∷ lines_of (drop (suc (index_of 10 l)) l)
-        → pick b ([] ∷ lines_of l) (started_by c (lines_of l)) ≡ take (index_after b (index_of 10 l)) (c ∷ l) ∷ lines_of (drop (suc (index_after b (index_of 10 l))) (c ∷ l))
+        → pick b ([] ∷ lines_of l) (started_by c (lines_of l)) ≡ take (pick b 0 (suc (index_of 10 l))) (c ∷ l) ∷ lines_of (drop (suc (pick b 0 (suc (index_of 10 l)))) (c ∷ l))
     go true e = refl
     go false e = ap (started_by c) e
 

@@ -30,12 +30,10 @@ mod showing;
 mod tables;
 mod vectors;
 
-ghost use Rattle.std.specs.Prelude.{◌+◌, ◌≤◌, length};
-
 use calling::Setting;
 use fields::NEWLINE;
+use input::read_full;
 use relay::Held;
-use std::io::Read;
 
 // The relay, one that was kept to go back to, and what calls bring besides.
 #[derive(Clone, Copy)]
@@ -115,32 +113,6 @@ fn run(rt: &impl Print, text: &[u8]) {
         state = after(rt, state, &text[from..end]);
         from = end + 1;
     }
-}
-
-// Reads once, behind what there is: how many bytes came. None at the end, and none where it fails.
-fn read_behind<R: Read>(reader: &mut R, text: &mut [u8], from: usize) -> usize
-    requires { from ≤ length text.old }
-    ensures { from + result ≤ length text.old }
-{
-    match reader.read(&mut text[from..]) {
-        Ok(got) => got,
-        Err(_) => 0,
-    }
-}
-
-// Reads until the text is full, or no more comes; how many bytes it has.
-fn read_full<R: Read>(reader: &mut R, text: &mut [u8]) -> usize
-    ensures { result ≤ length text.old }
-{
-    let mut done = 0;
-    while done < text.len() {
-        let got = read_behind(reader, text, done);
-        if got == 0 {
-            break;
-        }
-        done += got;
-    }
-    done
 }
 
 fn main(rt: HostRuntime) {

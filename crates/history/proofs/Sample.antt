@@ -109,7 +109,7 @@ pub record Sends (st : State) (a : Arrival) (message : List ℕ) : Type 0 where
 -- the four lines, and the listing's: 'A 0 3 c6336407 40000 cb007105 3478 49157 1600'
 pub record Sample : Type 0 where
   pub allocate_line : Sends empty allocating (0x01 ∷ 0x03 ∷ 0x00 ∷ 0x20 ∷ 0x21 ∷ 0x12 ∷ 0xa4 ∷ 0x42 ∷ 0x00 ∷ 0x01 ∷ 0x02 ∷ 0x03 ∷ 0x04 ∷ 0x05 ∷ 0x06 ∷ 0x07 ∷ 0x08 ∷ 0x09 ∷ 0x0a ∷ 0x0b ∷ 0x00 ∷ 0x16 ∷ 0x00 ∷ 0x08 ∷ 0x00 ∷ 0x01 ∷ 0xe1 ∷ 0x17 ∷ 0xea ∷ 0x12 ∷ 0xd5 ∷ 0x47 ∷ 0x00 ∷ 0x0d ∷ 0x00 ∷ 0x04 ∷ 0x00 ∷ 0x00 ∷ 0x02 ∷ 0x58 ∷ 0x00 ∷ 0x20 ∷ 0x00 ∷ 0x08 ∷ 0x00 ∷ 0x01 ∷ 0xbd ∷ 0x52 ∷ 0xe7 ∷ 0x21 ∷ 0xc0 ∷ 0x45 ∷ [])
-  pub permission_line_lem : Sends (run empty (allocating ∷ [])) permitting (0x01 ∷ 0x08 ∷ 0x00 ∷ 0x00 ∷ 0x21 ∷ 0x12 ∷ 0xa4 ∷ 0x42 ∷ 0x10 ∷ 0x11 ∷ 0x12 ∷ 0x13 ∷ 0x14 ∷ 0x15 ∷ 0x16 ∷ 0x17 ∷ 0x18 ∷ 0x19 ∷ 0x1a ∷ 0x1b ∷ [])
+  pub permission_line : Sends (run empty (allocating ∷ [])) permitting (0x01 ∷ 0x08 ∷ 0x00 ∷ 0x00 ∷ 0x21 ∷ 0x12 ∷ 0xa4 ∷ 0x42 ∷ 0x10 ∷ 0x11 ∷ 0x12 ∷ 0x13 ∷ 0x14 ∷ 0x15 ∷ 0x16 ∷ 0x17 ∷ 0x18 ∷ 0x19 ∷ 0x1a ∷ 0x1b ∷ [])
   pub carried_line : Sends (run empty (allocating ∷ permitting ∷ [])) (coming 1309 (lit< tt)) (0x00 ∷ 0x17 ∷ 0x00 ∷ 0x14 ∷ 0x21 ∷ 0x12 ∷ 0xa4 ∷ 0x42 ∷ 0x00 ∷ 0x00 ∷ 0x00 ∷ 0x00 ∷ 0x00 ∷ 0x00 ∷ 0x00 ∷ 0x00 ∷ 0x00 ∷ 0x00 ∷ 0x00 ∷ 0x00 ∷ 0x00 ∷ 0x12 ∷ 0x00 ∷ 0x08 ∷ 0x00 ∷ 0x01 ∷ 0x32 ∷ 0x9a ∷ 0xe1 ∷ 0x12 ∷ 0xa6 ∷ 0xd4 ∷ 0x00 ∷ 0x13 ∷ 0x00 ∷ 0x02 ∷ 0x68 ∷ 0x69 ∷ 0x00 ∷ 0x00 ∷ [])
   pub dropped_line : outcome (run empty (allocating ∷ permitting ∷ coming 1309 (lit< tt) ∷ [])) (coming 1310 (lit< tt)) ≡ DroppedLapsed
   pub listed : (slot_at (run empty (allocating ∷ permitting ∷ coming 1309 (lit< tt) ∷ coming 1310 (lit< tt) ∷ [])).slots 0).allocation
@@ -119,7 +119,7 @@ pub sample : Sample
 unfolding act refusal asked_by sorted is_well_formed walk walk_f step_at next_at num decided allocate respond repeats allocate_code request_code check any_unknown unknown_types unknown_numbers attributes_from is_integrity is_unknown attribute_kind_of find holds holds_user holds_port live_allocation both same_five_tuple same_transport_address same_address fresh_slot number_value first_of count port_for first_free ports_held allocated allocate_success bytes_of transaction_id_of accepted create_permission create_permission_code own_code permit_all permit_peer permit permission_entry entry put_at permits free_permission live_permission any malformed_peer ipv6_peer peers_from peers_of address_at v4_at bare_success relay_from_peer peer_cause unless_dropped permission_of permission_state entered relayed leads_to live_channel is_channel_number at_or data_indication denied denied_below
 sample = record {
   allocate_line = record { to = refl; holds = refl };
-  permission_line_lem = record { to = refl; holds = refl };
+  permission_line = record { to = refl; holds = refl };
   carried_line = record { to = refl; holds = refl };
   dropped_line = refl;
   listed = refl;

@@ -84,7 +84,7 @@ other_permitting =
 
 -- these calls count as this, the newest first, and after them the datagram goes to C with n bytes
 pub record Shows (calls : List Arrival) (past : List Counted) (datagram : Arrival) (C : FiveTuple) (n : ℕ) : Type 0 where
-  pub counts_as_lem : counted [] (events empty calls) ≡ past
+  pub counted_is : counted [] (events empty calls) ≡ past
   pub goes : outcome (run empty calls) datagram ≡ ToClient C n
 
 pub record Witnesses : Type 0 where
@@ -105,10 +105,10 @@ pub record Witnesses : Type 0 where
 pub witnesses : Witnesses
 unfolding act refusal asked_by sorted is_well_formed walk walk_f step_at next_at num decided allocate respond repeats allocate_code request_code check any_unknown unknown_types unknown_numbers attributes_from is_integrity is_unknown attribute_kind_of find holds holds_user holds_port live_allocation both same_five_tuple same_transport_address same_address fresh_slot number_value first_of count port_for first_free ports_held allocated allocate_success bytes_of transaction_id_of accepted refresh_code renewed refreshed refresh refresh_success create_permission create_permission_code own_code permit_all permit_peer permit permission_entry entry put_at permits free_permission live_permission any malformed_peer ipv6_peer peers_from peers_of first_peer address_at v4_at bare_success message_bytes bound channel_bind_code channel_bind numbered number_taken peer_taken free_channel channel_entry bind relay_from_peer peer_cause unless_dropped permission_of permission_state entered relayed leads_to live_channel is_channel_number at_or data_indication channel_data message_in checked fields_of same_bytes allocate_fields refresh_fields bare_fields granted denied denied_below
 witnesses = record {
-  by_refresh = record { counts_as_lem = refl; goes = refl };
+  by_refresh = record { counted_is = refl; goes = refl };
   refresh_over = refl;
-  by_channel = record { counts_as_lem = refl; goes = refl };
+  by_channel = record { counted_is = refl; goes = refl };
   channel_over = refl;
   never_asked = refl;
-  port_again = record { counts_as_lem = refl; goes = refl };
+  port_again = record { counted_is = refl; goes = refl };
 }

@@ -14,7 +14,7 @@ use borrow.Author.Tests.{lt-ltb, le-ltb, le-leb, lt-leb, eq-eqb, ne_eqb, ltb-tru
 use borrow.Rule.Slice.PartMut.{mid_of, put_mid}
 use Rattle.choice.specs.Choice.{pick, both}
 use Rattle.choice.proofs.Laws.{both_parts, both_no, both_yes}
-use Rattle.text.specs.Scan.{index_of, index_after}
+use Rattle.text.specs.Scan.{index_of}
 use Rattle.wire.specs.Inner.{Wrote}
 use Rattle.wire.proofs.Laws.{wrote_then}
 use Rattle.address.specs.declared.Address.{Address}
@@ -533,11 +533,11 @@ module _ {s : List ℕ} {from to : ℕ} {d l : List ℕ} {k : ℕ} (r : Filling 
 -- ---- a search for a byte, one after another
 module _ (a : List ℕ) (b i to : ℕ) (l : i < to) (h : to ≤ length a) where
   pub index_here : get_or a i 0 ≡ b → index_of b (slice i to a) ≡ 0
-  unfolding index_of index_after
+  unfolding index_of
   index_here e = rw (slice-cons i to a 0 l h, eq-eqb (get_or a i 0) b e)
 
   pub index_on : (get_or a i 0 ≡ b → ⊥) → index_of b (slice i to a) ≡ suc (index_of b (slice (suc i) to a))
-  unfolding index_of index_after
+  unfolding index_of
   index_on other = rw (slice-cons i to a 0 l h, ne_eqb (get_or a i 0) b other)
 
 pub index_end : (a : List ℕ) (b i to : ℕ) → i ≡ to → index_of b (slice i to a) ≡ 0
@@ -550,11 +550,9 @@ module _ (a : List ℕ) (start b : ℕ) where
   past_none to l h = rw (zero-add, let e : start + 0 ≡ start = omega arith in e)
 
   past_next : (i : ℕ) → Past a start i b → (get_or a (start + i) 0 ≡ b → ⊥) → Past a start (i + 1) b
-  unfolding slice index_of index_after
   past_next i before other to l h =
       let e : suc (start + i) ≡ start + (i + 1) = omega arith in
-      let one : index_of b (slice (start + i) to a) ≡ suc (index_of b (slice (suc (start + i)) to a)) =
-      rw (slice-cons (start + i) to a 0 (omega arith) h, ne_eqb (get_or a (start + i) 0) b other) in
+      let one = index_on a b (start + i) to (omega arith) h other in
       let step = subst (λ (j : ℕ). index_of b (slice (start + i) to a) ≡ suc (index_of b (slice j to a))) e one in
       before to (omega arith) h ∙ ap (λ (n : ℕ). i + n) step ∙ (omega arith)
 

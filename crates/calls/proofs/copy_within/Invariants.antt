@@ -1,4 +1,3 @@
--- proofs/copy_within/Invariants.antt
 use Rattle.std.proofs.Common.{◌-◌}
 use Rattle.calls.proofs.copy_within.Given as goal
 

@@ -1,4 +1,3 @@
--- proofs/read_line/Invariants.antt
 use Rattle.std.proofs.Common.{◌≤◌, length}
 use Rattle.calls.proofs.read_line.Given as goal
 

@@ -1,4 +1,3 @@
--- proofs/serve/Invariants.antt
 use Rattle.calls.proofs.serve.Given as goal
 
 abbrev pub decreases-loop-turns : goal.decreases-loop-turns

@@ -1,4 +1,3 @@
--- proofs/whole_listing/Answers.antt
 use Rattle.std.proofs.Common.{ap, ◌∙◌}
 use Rattle.listing.specs.Inner.{length_of}
 use Rattle.listing.proofs.Laws.{listing_fits}

@@ -1,4 +1,3 @@
--- proofs/run/Invariants.antt
 use Rattle.std.proofs.Common.{◌-◌, length}
 use Rattle.edges.proofs.run.Given as goal
 

@@ -1,4 +1,3 @@
--- proofs/fields/field_start/Invariants.antt
 use Rattle.std.proofs.Common.{◌≤◌, length}
 use Rattle.edges.proofs.fields.field_start.Given as goal
 

@@ -1,4 +1,3 @@
--- proofs/lent/not_sixty_four/Answers.antt
 -- The one of the two tables that the test chooses is the one that was lent.
 use Rattle.std.proofs.Common.{◌≡◌, ℕ, length, replicate}
 use Rattle.state.specs.State.{state}

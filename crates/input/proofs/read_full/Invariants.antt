@@ -1,6 +1,5 @@
--- proofs/denials/read_full/Invariants.antt
 use Rattle.std.proofs.Common.{◌-◌, ◌≤◌, length}
-use Rattle.calls.proofs.denials.read_full.Given as goal
+use Rattle.input.proofs.read_full.Given as goal
 
 abbrev pub invariant-loop-done : goal.invariant-loop-done
 invariant-loop-done g l = l.done ≤ length l.input
