@@ -2,17 +2,19 @@
 #![tactic(auto)]
 
 ghost use Rattle.std.specs.Prelude.{◌≡◌, ◌≤◌, ◌^◌, length};
+ghost use Rattle.rules.specs.Codes.{code_of};
 ghost use Rattle.rules.specs.Inner.{Gives, Answers};
 ghost use Rattle.allocation_rules.specs.Allocations.{repeats, allocate_code, allocated, allocate_reply, allocate, refresh_code, renewed, refreshed, refresh};
 
-use address::{TransactionId, same_transaction_id};
+use address::TransactionId;
 use choice::both;
 use lifetimes::{granted, granted_refresh, seconds_left};
 use messages::{put_allocate_success, put_refresh_success};
-use rules::answer::{Answer, Outcome, check, respond_error};
-use rules::requests::{ClientCall, own_code, request_code};
+use rules::answer::{Answer, Outcome, respond_error};
+use rules::codes::{ErrorCode, check};
+use rules::requests::{ClientCall, check_own, check_request};
 use rules::values::{missing, other_than, wrong_length};
-use slot::{Allocation, Slot, fresh_slot, with_allocation, with_transaction_id};
+use slot::{Allocation, Slot, fresh_slot};
 use stun::kinds::Method;
 use stun::values::{lifetime, requested_address_family, requested_transport, transaction_id};
 
@@ -39,28 +41,32 @@ fn repeats(s: &[u8], call: ClientCall, own: bool, slot: Slot) -> bool
 {
     let allocation = slot.allocation;
     let id = transaction_id(s);
-    let same = same_transaction_id(slot.transaction_id, id);
+    let same = slot.transaction_id == id;
     both(own, both(same, allocation.user == call.user))
 }
 
-fn allocate_code(s: &[u8], call: ClientCall, again: bool, room: Room) -> u16
-    ensures { (result ≡ allocate_code call s.now again room) × (result ≤ 699) }
+// A repeat is no error, and nothing after it is looked at.
+#[tactic(auto, unfolding(crate::specs::Allocations::allocate_code, rules::specs::Change::check))]
+fn check_allocate(s: &[u8], call: ClientCall, again: bool, room: Room) -> Result<(), ErrorCode>
+    ensures { code_of result ≡ allocate_code call s.now again room }
 {
     let transport = requested_transport(s);
     let family = requested_address_family(s);
-    let full = check(8 <= room.held, 486, check(!room.free, 508, 0));
-    let values = check(
-        other_than(1, family),
-        440,
-        check(wrong_length(lifetime(s)), 400, full),
-    );
-    let rest = check(
+    check_request(s, call)?;
+    if again {
+        return Ok(());
+    }
+    check(room.own, ErrorCode::AllocationMismatch)?;
+    check(missing(transport), ErrorCode::BadRequest)?;
+    check(
         other_than(17, transport),
-        442,
-        check(wrong_length(family), 400, values),
-    );
-    let first = check(room.own, 437, check(missing(transport), 400, rest));
-    request_code(s, call, check(again, 0, first))
+        ErrorCode::UnsupportedTransportProtocol,
+    )?;
+    check(wrong_length(family), ErrorCode::BadRequest)?;
+    check(other_than(1, family), ErrorCode::AddressFamilyNotSupported)?;
+    check(wrong_length(lifetime(s)), ErrorCode::BadRequest)?;
+    check(8 <= room.held, ErrorCode::AllocationQuotaReached)?;
+    check(!room.free, ErrorCode::InsufficientCapacity)
 }
 
 // The slot of a new allocation.
@@ -75,7 +81,11 @@ fn allocated(call: ClientCall, id: TransactionId, port: u16, seconds: u32) -> Sl
         port,
         expiry: call.time + seconds as u64,
     };
-    with_transaction_id(with_allocation(fresh_slot(), allocation), id)
+    Slot {
+        allocation,
+        transaction_id: id,
+        ..fresh_slot()
+    }
 }
 
 // The success response to an Allocate.
@@ -90,16 +100,15 @@ fn give_allocated(s: &[u8], reply: &mut [u8], call: ClientCall, port: u16, secon
     Outcome::ToClient { five_tuple, len }
 }
 
-// An Allocate. `was` is the live slot of the 5-tuple, or a fresh one; where no slot is written, it is handed back as it is.
+// An Allocate. `was` is the live slot of the 5-tuple, or a fresh one.
 pub fn allocate(s: &[u8], reply: &mut [u8], call: ClientCall, room: Room, was: Slot) -> Answer
     requires { (20 ≤ length s.now) × (1536 ≤ length reply.old) × (call.time ≤ 2 ^ 40) }
-    ensures { Answers (allocate call s.now room was) was reply.old reply.new result }
+    ensures { Answers (allocate call s.now room was) reply.old reply.new result }
 {
     let again = repeats(s, call, room.own, was);
-    let code = allocate_code(s, call, again, room);
-    if code != 0 {
+    if let Err(code) = check_allocate(s, call, again, room) {
         let five_tuple = call.five_tuple;
-        return respond_error(s, reply, five_tuple, Method::Allocate, code, was);
+        return respond_error(s, reply, five_tuple, Method::Allocate, code);
     }
     let seconds = granted(lifetime(s));
     if again {
@@ -107,41 +116,34 @@ pub fn allocate(s: &[u8], reply: &mut [u8], call: ClientCall, room: Room, was: S
         let left = seconds_left(call.time, stored.expiry);
         return Answer {
             outcome: give_allocated(s, reply, call, stored.port, left),
-            writes: false,
-            slot: was,
+            written: None,
         };
     }
     let slot = allocated(call, transaction_id(s), room.port, seconds);
     let outcome = give_allocated(s, reply, call, room.port, seconds);
     Answer {
         outcome,
-        writes: true,
-        slot,
+        written: Some(slot),
     }
 }
 
-fn refresh_code(s: &[u8], call: ClientCall, own: bool, slot: Slot) -> u16
-    ensures { (result ≡ refresh_code call s.now own slot) × (result ≤ 699) }
+#[tactic(auto, unfolding(crate::specs::Allocations::refresh_code, rules::specs::Change::check))]
+fn check_refresh(s: &[u8], call: ClientCall, own: bool, slot: Slot) -> Result<(), ErrorCode>
+    ensures { code_of result ≡ refresh_code call s.now own slot }
 {
     let family = requested_address_family(s);
-    let rest = check(
-        wrong_length(lifetime(s)),
-        400,
-        check(
-            wrong_length(family),
-            400,
-            check(other_than(1, family), 443, 0),
-        ),
-    );
-    own_code(s, call, own, slot, rest)
+    check_own(s, call, own, slot)?;
+    check(wrong_length(lifetime(s)), ErrorCode::BadRequest)?;
+    check(wrong_length(family), ErrorCode::BadRequest)?;
+    check(other_than(1, family), ErrorCode::PeerAddressFamilyMismatch)
 }
 
 fn renewed(expiry: u64, slot: Slot) -> Slot
     ensures { result ≡ renewed expiry slot }
 {
-    let mut allocation = slot.allocation;
-    allocation.expiry = expiry;
-    with_allocation(slot, allocation)
+    let mut renewed = slot;
+    renewed.allocation.expiry = expiry;
+    renewed
 }
 
 // The slot with its new expiry, or fresh where 0 seconds are granted.
@@ -157,12 +159,11 @@ fn refreshed(time: u64, seconds: u32, slot: Slot) -> Slot
 
 pub fn refresh(s: &[u8], reply: &mut [u8], call: ClientCall, own: bool, was: Slot) -> Answer
     requires { (20 ≤ length s.now) × (1536 ≤ length reply.old) × (call.time ≤ 2 ^ 40) }
-    ensures { Answers (refresh call s.now own was) was reply.old reply.new result }
+    ensures { Answers (refresh call s.now own was) reply.old reply.new result }
 {
-    let code = refresh_code(s, call, own, was);
     let five_tuple = call.five_tuple;
-    if code != 0 {
-        return respond_error(s, reply, five_tuple, Method::Refresh, code, was);
+    if let Err(code) = check_refresh(s, call, own, was) {
+        return respond_error(s, reply, five_tuple, Method::Refresh, code);
     }
     let seconds = granted_refresh(lifetime(s));
     let slot = refreshed(call.time, seconds, was);
@@ -170,7 +171,6 @@ pub fn refresh(s: &[u8], reply: &mut [u8], call: ClientCall, own: bool, was: Slo
     let outcome = Outcome::ToClient { five_tuple, len };
     Answer {
         outcome,
-        writes: true,
-        slot,
+        written: Some(slot),
     }
 }

@@ -11,9 +11,9 @@ use lib.Dec.{eqb, lit<}
 use native.Mathlib.Nat.{pow-succ', mod-eq_of_lt}
 use native.Mathlib.Numerals.{add-one}
 use native.Mathlib.Omega.{arith}
-use borrow.Author.Tests.{eqb-true, eq-eqb, le-leb}
+use borrow.Author.Tests.{eqb-true, eq-eqb}
 use Rattle.wire.specs.Wire.{num, bytes_of, part_of}
-use Rattle.wire.proofs.Laws.{num-written, bytes_mod, xor_twice}
+use Rattle.wire.proofs.Laws.{num-written, bytes_mod, xor_twice, part_within}
 use Rattle.choice.specs.Choice.{both}
 use Rattle.choice.proofs.Laws.{both_parts, both_true}
 use Rattle.address.specs.declared.Address.TheVariants.{V4}
@@ -60,10 +60,6 @@ rewritten_is (w ∷ ws) s at h k =
     rw (bytes_num s h at w (omega arith), rewritten_is ws s (at + w) h (omega arith), take-add w (sum ws) (drop at s), drop-drop w at s)
 
 -- data that lies within the bytes
-pub part_within : (s : List ℕ) (start len : ℕ) → start + len ≤ length s → part_of s start len ≡ take len (drop start s)
-unfolding part_of
-part_within s start len k = rw (le-leb _ _ k) refl
-
 pub part_size : (s : List ℕ) (start len : ℕ) → start + len ≤ length s → length (part_of s start len) ≡ len
 part_size s start len k = rw (part_within s start len k, length-take, length-drop) (omega arith)
 

@@ -24,8 +24,9 @@ use Rattle.stun.specs.Values.{transaction_id_of, address_at, v4_at, v6_at}
 use Rattle.messages.specs.Messages.{message_bytes, padding, address_attribute, data_attribute, error_code_attribute, unknown_attribute, types_bytes, allocate_success, refresh_success, bare_success, error_response, unknown_response, data_indication, channel_data}
 use Rattle.messages.proofs.Laws.{length_first_types}
 use Rattle.client_reader.proofs.Types.{types_append, types_back, below_all}
+use Rattle.std.specs.Prelude.{Some}
 use Rattle.client_reader.specs.declared.Message.TheVariants.{AllocateSuccess, RefreshSuccess, BareSuccess, Error, UnknownAttributes, DataIndication, ChannelData}
-use Rattle.client_reader.specs.Fields.{IdFits, AddressFits, IsBare, TypesInRange, plain}
+use Rattle.client_reader.specs.Fields.{IdFits, AddressFits, IsBare, TypesInRange}
 use Rattle.client_reader.specs.Inner.{fields_of, allocate_fields, refresh_fields, bare_fields, code_of, types_from, types_of, count_fits, unknown_fields, plain_error_fields, error_fields, indication_fields, channel_fields, stun_fields, data_fits}
 
 -- a word that is XORed with another word of the message
@@ -50,15 +51,15 @@ module _ (id : TransactionId) (h : IdFits id) where
   module _ (relay port seconds : ℕ) (hr : relay < 2 ^ 32) (hp : port < 2 ^ 16) (hs : seconds < 2 ^ 32) where
     pub allocate_back : (address : Address) (p : ℕ) → AddressFits address → p < 2 ^ 16
         → fields_of (allocate_success id relay port seconds (record { address = address; port = p }))
-        ≡ plain (AllocateSuccess id relay port seconds (record { address = address; port = p }))
+        ≡ Some (AllocateSuccess id relay port seconds (record { address = address; port = p }))
     unfolding fields_of allocate_fields allocate_success transaction_id_of address_at v4_at v6_at both num bytes_of
-    allocate_back (V4 a) p ha hq = λ i. plain (AllocateSuccess
+    allocate_back (V4 a) p ha hq = λ i. Some (AllocateSuccess
         (id_back i)
         (xor_written 4 relay 0x2112_a442 [] hr (lit< tt) i)
         (xor_written 2 port 0x2112 [] hp (lit< tt) i)
         (num-written 4 seconds [] hs i)
         (record { address = V4 (xor_written 4 a 0x2112_a442 [] ha (lit< tt) i); port = xor_written 2 p 0x2112 [] hq (lit< tt) i }))
-    allocate_back (V6 a b c d) p ha hq = λ i. plain (AllocateSuccess
+    allocate_back (V6 a b c d) p ha hq = λ i. Some (AllocateSuccess
         (id_back i)
         (xor_written 4 relay 0x2112_a442 [] hr (lit< tt) i)
         (xor_written 2 port 0x2112 [] hp (lit< tt) i)
@@ -69,16 +70,16 @@ module _ (id : TransactionId) (h : IdFits id) where
           port = xor_written 2 p 0x2112 [] hq (lit< tt) i;
         }))
 
-  pub refresh_back : (seconds : ℕ) → seconds < 2 ^ 32 → fields_of (refresh_success id seconds) ≡ plain (RefreshSuccess id seconds)
+  pub refresh_back : (seconds : ℕ) → seconds < 2 ^ 32 → fields_of (refresh_success id seconds) ≡ Some (RefreshSuccess id seconds)
   unfolding fields_of refresh_fields refresh_success transaction_id_of both num bytes_of
-  refresh_back seconds hs = λ i. plain (RefreshSuccess (id_back i) (num-written 4 seconds [] hs i))
+  refresh_back seconds hs = λ i. Some (RefreshSuccess (id_back i) (num-written 4 seconds [] hs i))
 
-  pub bare_back : (method : Method) → IsBare method → fields_of (bare_success method id) ≡ plain (BareSuccess method id)
+  pub bare_back : (method : Method) → IsBare method → fields_of (bare_success method id) ≡ Some (BareSuccess method id)
   unfolding fields_of bare_fields bare_success transaction_id_of both num bytes_of
   bare_back Allocate b = absurd b
   bare_back Refresh b = absurd b
-  bare_back CreatePermission b = λ i. plain (BareSuccess CreatePermission (id_back i))
-  bare_back ChannelBind b = λ i. plain (BareSuccess ChannelBind (id_back i))
+  bare_back CreatePermission b = λ i. Some (BareSuccess CreatePermission (id_back i))
+  bare_back ChannelBind b = λ i. Some (BareSuccess ChannelBind (id_back i))
 
 -- ---- A message by its kind
 
@@ -114,14 +115,14 @@ unfolding num bytes_of
 code_back code k = rw (num-written 1 (code / 100) [] (omega arith), num-written 1 (code % 100) [] (omega arith)) (omega arith)
 
 plain_error : (s : List ℕ) (method : Method) (code : ℕ) {id : TransactionId} → 28 ≤ length s → code_of s ≡ code → transaction_id_of s ≡ id
-    → 300 ≤ code → code ≤ 699 → (code ≡ 420 → ⊥) → error_fields method s ≡ plain (Error method id code)
+    → 300 ≤ code → code ≤ 699 → (code ≡ 420 → ⊥) → error_fields method s ≡ Some (Error method id code)
 unfolding error_fields plain_error_fields both
 plain_error s method code l e t low high other =
     rw (le-leb 28 (length s) l, e, ne_eqb code 420 other, le-leb 300 code low, le-leb code 699 high, t)
 
 module _ (id : TransactionId) (h : IdFits id) (method : Method) where
   pub error_back : (code : ℕ) → 300 ≤ code → code ≤ 699 → (code ≡ 420 → ⊥)
-      → fields_of (error_response method id code) ≡ plain (Error method id code)
+      → fields_of (error_response method id code) ≡ Some (Error method id code)
   unfolding error_response code_of num bytes_of
   error_back code low high other =
       by_error method id (error_code_attribute code)
@@ -131,7 +132,7 @@ module _ (id : TransactionId) (h : IdFits id) (method : Method) where
 
 unknown_error : (s : List ℕ) (method : Method) (count : ℕ) (types : List ℕ) {id : TransactionId} → 32 + count * 2 ≤ length s → code_of s ≡ 420
     → num s 30 2 / 2 ≡ count → transaction_id_of s ≡ id → types_of s count ≡ types → TypesInRange count types
-    → error_fields method s ≡ record { message = UnknownAttributes method id count; types = types }
+    → error_fields method s ≡ Some (UnknownAttributes method id types count)
 unfolding error_fields unknown_fields count_fits both
 unknown_error s method count types l e n t y r =
     rw (le-leb 28 (length s) (omega arith), e, le-leb 32 (length s) (omega arith), n, le-leb 1 count r.some, le-leb count 16 r.few, le-leb (32 + count * 2) (length s) l, y, below_all 0x8000 types r.below, t)
@@ -157,7 +158,7 @@ module _ (id : TransactionId) (h : IdFits id) (method : Method) (count : ℕ) (t
       ∙ types_back types count zeros (omega (arith, r.size, r.few)) r.below in
       rw (e, ← r.rest) (take-append-drop count types)
 
-  pub unknown_back : fields_of (unknown_response method id (take count types)) ≡ record { message = UnknownAttributes method id count; types = types }
+  pub unknown_back : fields_of (unknown_response method id (take count types)) ≡ Some (UnknownAttributes method id types count)
   unfolding unknown_response code_of num bytes_of
   unknown_back =
       by_error method id (error_code_attribute 420 ++ unknown_attribute front)
@@ -172,7 +173,7 @@ unfolding data_fits
 data_fits_lem start len s h k = both_true _ _ (le-leb len 1500 h) (le-leb (start + len) (length s) k)
 
 pub channel_back : (number : ℕ) (payload : List ℕ) → 0x4000 ≤ number → number ≤ 0x4fff → length payload ≤ 1500
-    → fields_of (channel_data number payload) ≡ plain (ChannelData number 4 (length payload))
+    → fields_of (channel_data number payload) ≡ Some (ChannelData number 4 (length payload))
 unfolding fields_of channel_fields channel_data both num bytes_of
 channel_back number payload low high few =
     let s = channel_data number payload in
@@ -182,13 +183,13 @@ channel_back number payload low high few =
 
 plain_indication : (s : List ℕ) {id : TransactionId} {peer port len : ℕ} → transaction_id_of s ≡ id → bit_xor (num s 28 4) 0x2112_a442 ≡ peer
     → bit_xor (num s 26 2) 0x2112 ≡ port → num s 34 2 ≡ len → len ≤ 1500 → 36 + len ≤ length s
-    → indication_fields s ≡ plain (DataIndication id peer port 36 len)
+    → indication_fields s ≡ Some (DataIndication id peer port 36 len)
 unfolding indication_fields
 plain_indication s {len = len} t a p n few l = rw (le-leb 36 (length s) (omega arith), n, data_fits_lem 36 len s few l, t, a, p)
 
 module _ (id : TransactionId) (h : IdFits id) (peer port : ℕ) (payload : List ℕ) where
   pub indication_back : peer < 2 ^ 32 → port < 2 ^ 16 → length payload ≤ 1500
-      → fields_of (data_indication id peer port payload) ≡ plain (DataIndication id peer port 36 (length payload))
+      → fields_of (data_indication id peer port payload) ≡ Some (DataIndication id peer port 36 (length payload))
   unfolding data_indication num bytes_of
   indication_back ha hp few =
       let s = data_indication id peer port payload in

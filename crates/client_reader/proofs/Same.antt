@@ -8,8 +8,10 @@ use lib.Seq.{take_at}
 use borrow.Author.Tests.{eqb-true, eq-eqb}
 use Rattle.choice.proofs.Laws.{both_parts, both_true}
 use Rattle.messages.specs.Inner.{Sent}
-use Rattle.client_reader.specs.declared.ReadMessage.{ReadMessage}
-use Rattle.client_reader.specs.Fields.{written, nothing}
+use Rattle.std.specs.Prelude.{Option, Some}
+use Rattle.std.specs.Bool.{then_some}
+use Rattle.client_reader.specs.declared.Message.{Message}
+use Rattle.client_reader.specs.Fields.{written}
 use Rattle.client_reader.specs.Inner.{when, same_bytes, checked}
 
 -- ---- The test of equality says equality
@@ -53,19 +55,15 @@ module _ {A d l : List ℕ} {n : ℕ} (w : Sent A d l n) where
 
 -- ---- A message that was tested
 
-pub checked_if : (m : ReadMessage) (s : List ℕ) {x y : ReadMessage} {r : Bool} → y ≡ m → x ≡ when r y → r ≡ same_bytes (written m s) s → x ≡ checked m s
+pub checked_if : (m : Message) (s : List ℕ) {x : Option Message} {r : Bool} → x ≡ then_some r m → r ≡ same_bytes (written m s) s → x ≡ checked (Some m) s
 unfolding checked
-checked_if m s {r = r} f e h = e ∙ ap (when r) f ∙ ap (λ (b : Bool). when b m) h
-
--- m was written, and r is the comparison
-pub checked_made : (m : ReadMessage) (s : List ℕ) {x y : ReadMessage} {d l : List ℕ} {n : ℕ} (r : Bool) → y ≡ m → x ≡ when r y → Sent (written m s) d l n
-    → Tells r (take n l) s → x ≡ checked m s
-checked_made m s r f e w h = checked_if m s f e (front_same w r s h)
-
-pub checked-nothing : (s : List ℕ) → checked nothing s ≡ nothing
-unfolding checked
-checked-nothing s = go (same_bytes [] s)
+checked_if m s {r = r} e h = e ∙ go r ∙ ap (λ (b : Bool). when b (Some m)) h
   where
-    go : (b : Bool) → when b nothing ≡ nothing
+    go : (b : Bool) → then_some b m ≡ when b (Some m)
     go true = refl
     go false = refl
+
+-- m was written, and r is the comparison
+pub checked_made : (m : Message) (s : List ℕ) {x : Option Message} {d l : List ℕ} {n : ℕ} (r : Bool) → x ≡ then_some r m → Sent (written m s) d l n
+    → Tells r (take n l) s → x ≡ checked (Some m) s
+checked_made m s r e w h = checked_if m s e (front_same w r s h)

@@ -2,20 +2,21 @@
 use Prim.Native.Nat.{ℕ, zero, suc, ◌+◌, ◌-◌, ◌*◌, ◌≤◌, ◌<◌}
 use mathlib.Core.Path.{◌≡◌, refl, sym, ap, ap₂, ◌∙◌}
 use mathlib.Core.List.{List, [], ◌∷◌, ◌++◌, append_assoc}
-use mathlib.Core.Bool.{true, false}
-use lib.ListN.{length, get_or, take, drop, replicate, set, drop_of_length-le}
-use lib.Seq.{drop-cons, set_at}
+use mathlib.Core.Bool.{true}
+use lib.ListN.{length, get_or, take, replicate, set}
+use lib.Seq.{set_at}
 use lib.Dec.{ltb}
 use native.Mathlib.Omega.{arith}
 use native.Mathlib.Nat.{add_assoc, not-suc-le-zero}
 use native.Mathlib.Numerals.{add-one}
-use borrow.Author.Tests.{lt-ltb, le-ltb, ltb-true}
+use borrow.Author.Tests.{lt-ltb, ltb-true}
+use Rattle.std.specs.List.{list_all}
 use Rattle.wire.specs.Wire.{num, bytes_of}
 use Rattle.wire.proofs.Laws.{num-written, num-append}
 use Rattle.choice.specs.Choice.{both}
 use Rattle.choice.proofs.Laws.{both_parts, both_true}
 use Rattle.messages.specs.Messages.{types_bytes}
-use Rattle.client_reader.specs.Inner.{types_from, types_of, all_below}
+use Rattle.client_reader.specs.Inner.{types_from, all_below}
 
 -- ---- Read one by one
 
@@ -31,16 +32,16 @@ types_more s at (suc count) =
     let e : at + 2 + count * 2 ≡ at + suc count * 2 = omega arith in
     ap (λ (rest : List ℕ). num s at 2 ∷ rest) (rw e at (types_more s (at + 2) count))
 
--- the array with one type more
-pub types_next : (s types : List ℕ) (i : ℕ) → types ≡ types_of s i → i < 16 → set types i (num s (32 + i * 2) 2) ≡ types_of s (i + 1)
-unfolding types_of
-types_next s types i e h =
+-- the first i of count, and then one more
+pub types_next : (s types : List ℕ) (i count : ℕ) → types ≡ types_from s 32 i ++ replicate (count - i) 0 → i < count
+    → set types i (num s (32 + i * 2) 2) ≡ types_from s 32 (i + 1) ++ replicate (count - (i + 1)) 0
+types_next s types i count e h =
     let t = num s (32 + i * 2) 2 in
-    let z : 16 - i ≡ suc (16 - suc i) = omega arith in
+    let z : count - i ≡ suc (count - suc i) = omega arith in
     rw add-one
     (ap (λ (l : List ℕ). set l i t) (e ∙ ap (λ (k : ℕ). types_from s 32 i ++ replicate k 0) z)
-    ∙ set_at (types_from s 32 i) 0 (replicate (16 - suc i) 0) t i (length_types_from s 32 i)
-    ∙ sym (rw (types_more s 32 i) (append_assoc (types_from s 32 i) (t ∷ []) (replicate (16 - suc i) 0))))
+    ∙ set_at (types_from s 32 i) 0 (replicate (count - suc i) 0) t i (length_types_from s 32 i)
+    ∙ sym (rw (types_more s 32 i) (append_assoc (types_from s 32 i) (t ∷ []) (replicate (count - suc i) 0))))
 
 -- ---- Read back
 
@@ -73,20 +74,8 @@ all_below_lem bound [] p e i = p
 all_below_lem bound (t ∷ types) p e zero = ltb-true t bound (both_parts _ _ e).0
 all_below_lem bound (t ∷ types) p e (suc i) = all_below_lem bound types p (both_parts _ _ e).1 i
 
--- the test, one type after the other: what is left says what the whole says
-module _ (bound : ℕ) (types : List ℕ) (i : ℕ) (e : all_below bound types ≡ all_below bound (drop i types)) (h : i < length types) where
-  told : all_below bound types ≡ both (ltb (get_or types i 0) bound) (all_below bound (drop (i + 1) types))
-  unfolding all_below
-  told = rw add-one (e ∙ ap (all_below bound) (drop-cons types i 0 h))
-
-  pub below_stop : bound ≤ get_or types i 0 → false ≡ all_below bound types
-  unfolding both
-  below_stop k = sym (rw (le-ltb (get_or types i 0) bound k) at told)
-
-  pub below_on : get_or types i 0 < bound → all_below bound types ≡ all_below bound (drop (i + 1) types)
-  unfolding both
-  below_on k = rw (lt-ltb (get_or types i 0) bound k) at told
-
-pub below_end : (bound : ℕ) (types : List ℕ) (i : ℕ) → all_below bound types ≡ all_below bound (drop i types) → length types ≤ i → true ≡ all_below bound types
-unfolding all_below
-below_end bound types i e h = sym (e ∙ ap (all_below bound) (drop_of_length-le types {i = i} h))
+-- std's test of each
+pub all_is : (bound : ℕ) (types : List ℕ) → list_all (λ (t : ℕ). ltb t bound) types ≡ all_below bound types
+unfolding all_below both
+all_is bound [] = refl
+all_is bound (t ∷ types) = rw (all_is bound types)

@@ -1,6 +1,6 @@
 -- What the functions inside the reader promise each other: the fields at their places, and the test that writing them makes the bytes.
 -- That this is exact reading is proved (`exact` in proofs/Laws.antt), so that no reader needs to believe it.
-use Rattle.std.specs.Prelude.{ℕ, zero, suc, ◌+◌, ◌-◌, ◌*◌, ◌/◌, Bool, true, false, List, [], ◌∷◌, ◌++◌, length, replicate, leb, ltb, eqb}
+use Rattle.std.specs.Prelude.{ℕ, zero, suc, ◌+◌, ◌-◌, ◌*◌, ◌/◌, Bool, true, false, Option, Some, None, List, [], ◌∷◌, ◌++◌, length, replicate, leb, ltb, eqb}
 use Rattle.std.specs.Int.Bits.{bit_xor}
 use Rattle.wire.specs.Wire.{num}
 use Rattle.choice.specs.Choice.{pick, both}
@@ -10,31 +10,30 @@ use Rattle.stun.specs.declared.kinds.MessageKind.{MessageKind}
 use Rattle.stun.specs.declared.kinds.MessageKind.TheVariants as Kind
 use Rattle.stun.specs.AttributeNumbers as attribute
 use Rattle.stun.specs.Kinds.{cookie, cookie_high, data_type, message_kind_of}
-use Rattle.stun.specs.Values.{transaction_id_of, address_at}
+use Rattle.stun.specs.Values.{transaction_id_of, peer_or_nobody, address_at}
 use Rattle.slot.specs.Slot.{is_channel_number}
 use Rattle.client_reader.specs.declared.Message.{Message}
 use Rattle.client_reader.specs.declared.Message.TheVariants.{AllocateSuccess, RefreshSuccess, BareSuccess, Error, UnknownAttributes, DataIndication, ChannelData}
-use Rattle.client_reader.specs.declared.ReadMessage.{ReadMessage}
-use Rattle.client_reader.specs.Fields.{written, plain, nothing}
+use Rattle.client_reader.specs.Fields.{written}
 
--- m where the test holds, else nothing
-abbrev pub when : Bool → ReadMessage → ReadMessage
-when test m = pick test m nothing
+-- m where the test holds, else none
+abbrev pub when : Bool → Option Message → Option Message
+when test m = pick test m None
 
 -- ---- The fields at their places
 
 -- XOR-RELAYED-ADDRESS stands at 20, LIFETIME at 32, XOR-MAPPED-ADDRESS at 40, the value of each 4 bytes further on
-unfoldable pub allocate_fields : List ℕ → ReadMessage
+unfoldable pub allocate_fields : List ℕ → Option Message
 allocate_fields s =
     when (leb 44 (length s))
-    (plain (AllocateSuccess (transaction_id_of s) (bit_xor (num s 28 4) cookie) (bit_xor (num s 26 2) cookie_high) (num s 36 4) (address_at s 44 (length s - 44)).peer))
+    (Some (AllocateSuccess (transaction_id_of s) (bit_xor (num s 28 4) cookie) (bit_xor (num s 26 2) cookie_high) (num s 36 4) (peer_or_nobody (address_at s 44 (length s - 44)))))
 
 -- LIFETIME stands at 20
-unfoldable pub refresh_fields : List ℕ → ReadMessage
-refresh_fields s = when (leb 28 (length s)) (plain (RefreshSuccess (transaction_id_of s) (num s 24 4)))
+unfoldable pub refresh_fields : List ℕ → Option Message
+refresh_fields s = when (leb 28 (length s)) (Some (RefreshSuccess (transaction_id_of s) (num s 24 4)))
 
-unfoldable pub bare_fields : Method → List ℕ → ReadMessage
-bare_fields method s = plain (BareSuccess method (transaction_id_of s))
+unfoldable pub bare_fields : Method → List ℕ → Option Message
+bare_fields method s = Some (BareSuccess method (transaction_id_of s))
 
 -- count types from at on
 unfoldable pub types_from : List ℕ → ℕ → ℕ → List ℕ
@@ -55,21 +54,21 @@ unfoldable pub count_fits : ℕ → List ℕ → Bool
 count_fits count s = both (leb 1 count) (both (leb count 16) (leb (32 + count * 2) (length s)))
 
 -- a 420 with these types
-abbrev pub unknown_of : Method → List ℕ → ℕ → List ℕ → ReadMessage
-unknown_of method s count types = record { message = UnknownAttributes method (transaction_id_of s) count; types = types }
+abbrev pub unknown_of : Method → List ℕ → ℕ → List ℕ → Message
+unknown_of method s count types = UnknownAttributes method (transaction_id_of s) types count
 
-unfoldable pub unknown_fields : Method → List ℕ → ℕ → ReadMessage
-unknown_fields method s count = when (count_fits count s) (when (all_below 0x8000 (types_of s count)) (unknown_of method s count (types_of s count)))
+unfoldable pub unknown_fields : Method → List ℕ → ℕ → Option Message
+unknown_fields method s count = when (count_fits count s) (when (all_below 0x8000 (types_of s count)) (Some (unknown_of method s count (types_of s count))))
 
 -- 'ERROR-CODE 0x0009, 4 bytes: 0, 0, hundreds, rest'
 unfoldable pub code_of : List ℕ → ℕ
 code_of s = num s 26 1 * 100 + num s 27 1
 
 -- an error that carries no types
-unfoldable pub plain_error_fields : Method → List ℕ → ℕ → ReadMessage
-plain_error_fields method s code = when (both (leb 300 code) (leb code 699)) (plain (Error method (transaction_id_of s) code))
+unfoldable pub plain_error_fields : Method → List ℕ → ℕ → Option Message
+plain_error_fields method s code = when (both (leb 300 code) (leb code 699)) (Some (Error method (transaction_id_of s) code))
 
-unfoldable pub error_fields : Method → List ℕ → ReadMessage
+unfoldable pub error_fields : Method → List ℕ → Option Message
 error_fields method s =
     when (leb 28 (length s))
     (pick (eqb (code_of s) 420)
@@ -84,28 +83,28 @@ data_fits start len s = both (leb len 1500) (leb (start + len) (length s))
 abbrev pub indication_of : List ℕ → Message
 indication_of s = DataIndication (transaction_id_of s) (bit_xor (num s 28 4) cookie) (bit_xor (num s 26 2) cookie_high) 36 (num s 34 2)
 
-unfoldable pub indication_fields : List ℕ → ReadMessage
-indication_fields s = when (leb 36 (length s)) (when (data_fits 36 (num s 34 2) s) (plain (indication_of s)))
+unfoldable pub indication_fields : List ℕ → Option Message
+indication_fields s = when (leb 36 (length s)) (when (data_fits 36 (num s 34 2) s) (Some (indication_of s)))
 
-unfoldable pub channel_fields : List ℕ → ReadMessage
-channel_fields s = when (data_fits 4 (num s 2 2) s) (plain (ChannelData (num s 0 2) 4 (num s 2 2)))
+unfoldable pub channel_fields : List ℕ → Option Message
+channel_fields s = when (data_fits 4 (num s 2 2) s) (Some (ChannelData (num s 0 2) 4 (num s 2 2)))
 
-abbrev pub success_fields : Method → List ℕ → ReadMessage
+abbrev pub success_fields : Method → List ℕ → Option Message
 success_fields Allocate s = allocate_fields s
 success_fields Refresh s = refresh_fields s
 success_fields CreatePermission s = bare_fields CreatePermission s
 success_fields ChannelBind s = bare_fields ChannelBind s
 
-abbrev pub stun_fields : MessageKind → List ℕ → ReadMessage
-stun_fields (Kind.Request method) s = nothing
+abbrev pub stun_fields : MessageKind → List ℕ → Option Message
+stun_fields (Kind.Request method) s = None
 stun_fields (Kind.Success method) s = success_fields method s
 stun_fields (Kind.Error method) s = error_fields method s
-stun_fields Kind.SendIndication s = nothing
+stun_fields Kind.SendIndication s = None
 stun_fields Kind.DataIndication s = indication_fields s
-stun_fields Kind.Other s = nothing
+stun_fields Kind.Other s = None
 
 -- 'channels 0x4000 to 0x4FFF'
-unfoldable pub fields_of : List ℕ → ReadMessage
+unfoldable pub fields_of : List ℕ → Option Message
 unfolding is_channel_number
 fields_of s =
     when (leb 4 (length s))
@@ -121,8 +120,9 @@ same_bytes (a ∷ x) [] = false
 same_bytes (a ∷ x) (b ∷ y) = both (eqb a b) (same_bytes x y)
 
 -- m where writing it makes the bytes
-unfoldable pub checked : ReadMessage → List ℕ → ReadMessage
-checked m s = when (same_bytes (written m s) s) m
+unfoldable pub checked : Option Message → List ℕ → Option Message
+checked None s = None
+checked (Some m) s = when (same_bytes (written m s) s) (Some m)
 
 -- ---- What is tested around the data
 

@@ -1,15 +1,15 @@
 // The messages that carry data: the fields at their places, and the test of what stands around the data, which is not copied.
 ghost use Rattle.std.specs.Prelude.{◌≡◌, ◌+◌, ◌≤◌, ◌<◌, length};
 ghost use Rattle.wire.specs.Wire.{num};
-ghost use Rattle.client_reader.specs.Fields.{written, plain};
+ghost use Rattle.client_reader.specs.Fields.{written};
 ghost use Rattle.client_reader.specs.Inner.{checked, data_fits, same_bytes, indication_head, indication_of, indication_fields, channel_fields};
 
-use crate::{Message, ReadMessage, nothing, plain, read_if};
+use crate::Message;
 use check::same;
 use choice::both;
 use stun::kinds::{AttributeKind, MessageKind};
 use stun::values::transaction_id;
-use wire::{u16_at, u32_at, xor_u16, xor_u32};
+use wire::Number;
 
 fn data_fits(start: usize, len: usize, s: &[u8]) -> bool
     requires { (start ≤ 36) × (len < 65536) }
@@ -24,63 +24,63 @@ fn indication_head(s: &[u8]) -> bool
     ensures { result ≡ indication_head s.now }
 {
     let address = both(
-        u16_at(s, 20) == AttributeKind::XOR_PEER_ADDRESS,
-        both(u16_at(s, 22) == 8, u16_at(s, 24) == 1),
+        u16::at(s, 20) == AttributeKind::XOR_PEER_ADDRESS,
+        both(u16::at(s, 22) == 8, u16::at(s, 24) == 1),
     );
     let kinds = both(
-        u16_at(s, 0) == MessageKind::DATA,
-        u16_at(s, 32) == AttributeKind::DATA,
+        u16::at(s, 0) == MessageKind::DATA,
+        u16::at(s, 32) == AttributeKind::DATA,
     );
-    both(u32_at(s, 4) == stun::COOKIE, both(kinds, address))
+    both(u32::at(s, 4) == stun::COOKIE, both(kinds, address))
 }
 
 // Whether the bytes are a Data indication with len bytes of data.
 fn is_indication(s: &[u8], len: usize) -> bool
     requires { (len ≡ num s.now 34 2) × (len ≤ 1500) × (36 + len ≤ length s.now) }
-    ensures { result ≡ same_bytes (written (plain (indication_of s.now)) s.now) s.now }
+    ensures { result ≡ same_bytes (written (indication_of s.now) s.now) s.now }
 {
     let padding = (len + 3) / 4 * 4 - len;
     let data_end = 36 + len;
     let zeros = [0u8; 3];
     let padded = both(
-        u16_at(s, 2) as usize == 16 + len + padding,
+        u16::at(s, 2) as usize == 16 + len + padding,
         same(&zeros[..padding], &s[data_end..]),
     );
     both(indication_head(s), padded)
 }
 
-pub(crate) fn indication(s: &[u8]) -> ReadMessage
+pub(crate) fn indication(s: &[u8]) -> Option<Message>
     ensures { result ≡ checked (indication_fields s.now) s.now }
 {
     if s.len() < 36 {
-        return nothing();
+        return None;
     }
-    let len = u16_at(s, 34) as usize;
+    let len = u16::at(s, 34) as usize;
     if data_fits(36, len, s) {
         let message = Message::DataIndication {
             id: transaction_id(s),
-            peer: xor_u32(u32_at(s, 28), stun::COOKIE),
-            port: xor_u16(u16_at(s, 26), stun::COOKIE_HIGH),
+            peer: u32::at(s, 28) ^ stun::COOKIE,
+            port: u16::at(s, 26) ^ stun::COOKIE_HIGH,
             start: 36,
             len,
         };
-        return read_if(is_indication(s, len), plain(message));
+        return is_indication(s, len).then_some(message);
     }
-    nothing()
+    None
 }
 
-pub(crate) fn channel_data(s: &[u8]) -> ReadMessage
+pub(crate) fn channel_data(s: &[u8]) -> Option<Message>
     requires { 4 ≤ length s.now }
     ensures { result ≡ checked (channel_fields s.now) s.now }
 {
-    let len = u16_at(s, 2) as usize;
+    let len = u16::at(s, 2) as usize;
     if data_fits(4, len, s) {
         let message = Message::ChannelData {
-            number: u16_at(s, 0),
+            number: u16::at(s, 0),
             start: 4,
             len,
         };
-        return read_if(s.len() == 4 + len, plain(message));
+        return (s.len() == 4 + len).then_some(message);
     }
-    nothing()
+    None
 }

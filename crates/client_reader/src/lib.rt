@@ -7,13 +7,13 @@ mod data;
 mod responses;
 
 ghost use Rattle.std.specs.Prelude.{◌≡◌, ◌≤◌, length};
-ghost use Rattle.client_reader.specs.Fields.{plain, nothing, Exact};
-ghost use Rattle.client_reader.specs.Inner.{when, checked, stun_fields};
+ghost use Rattle.client_reader.specs.Fields.{Exact};
+ghost use Rattle.client_reader.specs.Inner.{checked, stun_fields};
 
 use address::{TransactionId, TransportAddress};
 use slot::channels::is_channel_number;
 use stun::kinds::{MessageKind, Method};
-use wire::u16_at;
+use wire::Number;
 
 #[derive(Clone, Copy)]
 pub enum Message {
@@ -39,10 +39,12 @@ pub enum Message {
         id: TransactionId,
         code: u16,
     },
-    // The error 420: the first count types of the array beside it.
+    // The error 420: the first count of the types; the others are 0.
+    // An array with its count: a slice of the bytes would be no numbers, and no heap is a rule of the project.
     UnknownAttributes {
         method: Method,
         id: TransactionId,
+        types: [u16; 16],
         count: usize,
     },
     // The data is the part of the bytes that starts at start and has len bytes (`wire::part`).
@@ -58,67 +60,34 @@ pub enum Message {
         start: usize,
         len: usize,
     },
-    Nothing,
 }
 
-// What was read; the types are all 0 but for the first count of a 420.
-#[derive(Clone, Copy)]
-pub struct ReadMessage {
-    pub message: Message,
-    pub types: [u16; 16],
-}
-
-// A message that carries no types.
-fn plain(message: Message) -> ReadMessage
-    ensures { result ≡ plain message }
-{
-    let types = [0u16; 16];
-    ReadMessage { message, types }
-}
-
-fn nothing() -> ReadMessage
-    ensures { result ≡ nothing }
-{
-    plain(Message::Nothing)
-}
-
-// What was read, where it passed its test.
-fn read_if(test: bool, read: ReadMessage) -> ReadMessage
-    ensures { result ≡ when test read }
-{
-    if test {
-        return read;
-    }
-    nothing()
-}
-
-fn stun_message(s: &[u8], kind: MessageKind) -> ReadMessage
+#[tactic(auto, unfolding(crate::specs::Inner::checked))]
+fn stun_message(s: &[u8], kind: MessageKind) -> Option<Message>
     requires { 20 ≤ length s.now }
     ensures { result ≡ checked (stun_fields kind s.now) s.now }
 {
     match kind {
-        MessageKind::Request(_) => nothing(),
         MessageKind::Success(method) => responses::success(s, method),
         MessageKind::Error(method) => responses::error(s, method),
-        MessageKind::SendIndication => nothing(),
         MessageKind::DataIndication => data::indication(s),
-        MessageKind::Other => nothing(),
+        MessageKind::Request(_) | MessageKind::SendIndication | MessageKind::Other => None,
     }
 }
 
-// The fields exactly where writing them makes the bytes; else Nothing.
-pub fn read_message(s: &[u8]) -> ReadMessage
+// The fields exactly where writing them makes the bytes; else None.
+pub fn read_message(s: &[u8]) -> Option<Message>
     ensures { Exact s.now result }
 {
     if s.len() < 4 {
-        return nothing();
+        return None;
     }
-    let number = u16_at(s, 0);
+    let number = u16::at(s, 0);
     if is_channel_number(number) {
         return data::channel_data(s);
     }
     if s.len() < stun::HEADER {
-        return nothing();
+        return None;
     }
     stun_message(s, MessageKind::of(number))
 }

@@ -1,8 +1,11 @@
 // Success and error responses: the fields at their places, written, and compared with the bytes.
-ghost use Rattle.std.specs.Prelude.{◌≡◌, ◌+◌, ◌*◌, ◌≤◌, ◌<◌, length};
+ghost use Rattle.std.specs.Prelude.{◌≡◌, ◌+◌, ◌*◌, ◌≤◌, ◌<◌, ℕ, List, Some, length};
+ghost use Rattle.std.specs.Fn.{FnOnceReturnsAtMut};
+ghost use Rattle.messages.specs.Inner.{Sent};
+ghost use Rattle.client_reader.specs.Fields.{written};
 ghost use Rattle.client_reader.specs.Inner.{checked, allocate_fields, refresh_fields, bare_fields, success_fields, types_of, all_below, count_fits, unknown_of, unknown_fields, code_of, plain_error_fields, error_fields};
 
-use crate::{Message, ReadMessage, nothing, plain, read_if};
+use crate::Message;
 use check::same;
 use choice::both;
 use messages::{
@@ -10,24 +13,37 @@ use messages::{
     put_unknown_response,
 };
 use stun::kinds::{AttributeKind, Method};
-use stun::values::{address_at, transaction_id};
-use wire::{u8_at, u16_at, u32_at, xor_u16, xor_u32};
+use stun::values::{NOBODY, address_at, transaction_id};
+use wire::Number;
+
+// The message, where writing it makes the bytes.
+fn compared<F: FnOnce(&mut [u8; 1536]) -> usize>(
+    s: &[u8],
+    message: Message,
+    put: F,
+) -> Option<Message>
+    requires callable { F.IsAlwaysCallable put }
+    requires writes { (before after : List ℕ) (n : ℕ) → FnOnceReturnsAtMut F.FnOnce put before n after → Sent (written message s.now) before after n }
+    ensures { result ≡ checked (Some message) s.now }
+{
+    let mut made = [0u8; 1536];
+    let n = put(&mut made);
+    same(&made[..n], s).then_some(message)
+}
 
 // ---- Success
 
-fn allocate_success(s: &[u8]) -> ReadMessage
+fn allocate_success(s: &[u8]) -> Option<Message>
     ensures { result ≡ checked (allocate_fields s.now) s.now }
 {
     if s.len() < 44 {
-        return nothing();
+        return None;
     }
     let id = transaction_id(s);
-    let relay = xor_u32(u32_at(s, 28), stun::COOKIE);
-    let port = xor_u16(u16_at(s, 26), stun::COOKIE_HIGH);
-    let seconds = u32_at(s, 36);
-    let client = address_at(s, 44, s.len() - 44).peer;
-    let mut made = [0u8; 1536];
-    let n = put_allocate_success(&mut made, id, relay, port, seconds, client);
+    let relay = u32::at(s, 28) ^ stun::COOKIE;
+    let port = u16::at(s, 26) ^ stun::COOKIE_HIGH;
+    let seconds = u32::at(s, 36);
+    let client = address_at(s, 44, s.len() - 44).unwrap_or(NOBODY);
     let message = Message::AllocateSuccess {
         id,
         relay,
@@ -35,35 +51,33 @@ fn allocate_success(s: &[u8]) -> ReadMessage
         seconds,
         client,
     };
-    read_if(same(&made[..n], s), plain(message))
+    compared(s, message, |made| {
+        put_allocate_success(made, id, relay, port, seconds, client)
+    })
 }
 
-fn refresh_success(s: &[u8]) -> ReadMessage
+fn refresh_success(s: &[u8]) -> Option<Message>
     ensures { result ≡ checked (refresh_fields s.now) s.now }
 {
     if s.len() < 28 {
-        return nothing();
+        return None;
     }
     let id = transaction_id(s);
-    let seconds = u32_at(s, 24);
-    let mut made = [0u8; 1536];
-    let n = put_refresh_success(&mut made, id, seconds);
+    let seconds = u32::at(s, 24);
     let message = Message::RefreshSuccess { id, seconds };
-    read_if(same(&made[..n], s), plain(message))
+    compared(s, message, |made| put_refresh_success(made, id, seconds))
 }
 
-fn bare_success(s: &[u8], method: Method) -> ReadMessage
+fn bare_success(s: &[u8], method: Method) -> Option<Message>
     requires { 20 ≤ length s.now }
     ensures { result ≡ checked (bare_fields method s.now) s.now }
 {
     let id = transaction_id(s);
-    let mut made = [0u8; 1536];
-    let n = put_bare_success(&mut made, method, id);
     let message = Message::BareSuccess { method, id };
-    read_if(same(&made[..n], s), plain(message))
+    compared(s, message, |made| put_bare_success(made, method, id))
 }
 
-pub(crate) fn success(s: &[u8], method: Method) -> ReadMessage
+pub(crate) fn success(s: &[u8], method: Method) -> Option<Message>
     requires { 20 ≤ length s.now }
     ensures { result ≡ checked (success_fields method s.now) s.now }
 {
@@ -83,8 +97,8 @@ fn types_of(s: &[u8], count: usize) -> [u16; 16]
     ensures { result ≡ types_of s.now count }
 {
     let mut types = [0u16; 16];
-    for i in 0..count {
-        types[i] = u16_at(s, 32 + i * 2);
+    for (i, t) in types[..count].iter_mut().enumerate() {
+        *t = u16::at(s, 32 + i * 2);
     }
     types
 }
@@ -92,12 +106,7 @@ fn types_of(s: &[u8], count: usize) -> [u16; 16]
 fn all_below(bound: u16, types: [u16; 16]) -> bool
     ensures { result ≡ all_below bound types }
 {
-    for i in 0..16 {
-        if bound <= types[i] {
-            return false;
-        }
-    }
-    true
+    types.iter().all(|t| *t < bound)
 }
 
 fn count_fits(count: usize, s: &[u8]) -> bool
@@ -108,18 +117,23 @@ fn count_fits(count: usize, s: &[u8]) -> bool
 }
 
 // A 420 with these types.
-fn unknown_response(s: &[u8], method: Method, count: usize, types: [u16; 16]) -> ReadMessage
+fn unknown_response(s: &[u8], method: Method, count: usize, types: [u16; 16]) -> Option<Message>
     requires { (count ≤ 16) × (20 ≤ length s.now) }
-    ensures { result ≡ checked (unknown_of method s.now count types) s.now }
+    ensures { result ≡ checked (Some (unknown_of method s.now count types)) s.now }
 {
     let id = transaction_id(s);
-    let mut made = [0u8; 1536];
-    let n = put_unknown_response(&mut made, method, id, types, count);
-    let message = Message::UnknownAttributes { method, id, count };
-    read_if(same(&made[..n], s), ReadMessage { message, types })
+    let message = Message::UnknownAttributes {
+        method,
+        id,
+        types,
+        count,
+    };
+    compared(s, message, |made| {
+        put_unknown_response(made, method, id, &types[..count])
+    })
 }
 
-fn unknown_attributes(s: &[u8], method: Method, count: usize) -> ReadMessage
+fn unknown_attributes(s: &[u8], method: Method, count: usize) -> Option<Message>
     requires { (count < 65536) × (32 ≤ length s.now) }
     ensures { result ≡ checked (unknown_fields method s.now count) s.now }
 {
@@ -128,45 +142,45 @@ fn unknown_attributes(s: &[u8], method: Method, count: usize) -> ReadMessage
         if all_below(AttributeKind::COMPREHENSION_OPTIONAL, types) {
             return unknown_response(s, method, count, types);
         }
-        return nothing();
+        return None;
     }
-    nothing()
+    None
 }
 
 fn code_of(s: &[u8]) -> u16
     requires { 28 ≤ length s.now }
     ensures { result ≡ code_of s.now }
 {
-    (u8_at(s, 26) as u16) * 100 + u8_at(s, 27) as u16
+    (u8::at(s, 26) as u16) * 100 + u8::at(s, 27) as u16
 }
 
 // An error that carries no types.
-fn plain_error(s: &[u8], method: Method, code: u16) -> ReadMessage
+fn plain_error(s: &[u8], method: Method, code: u16) -> Option<Message>
     requires { 28 ≤ length s.now }
     ensures { result ≡ checked (plain_error_fields method s.now code) s.now }
 {
     if both(300 <= code, code <= 699) {
         let id = transaction_id(s);
-        let mut made = [0u8; 1536];
-        let n = put_error_response(&mut made, method, id, code);
         let message = Message::Error { method, id, code };
-        return read_if(same(&made[..n], s), plain(message));
+        return compared(s, message, |made| {
+            put_error_response(made, method, id, code)
+        });
     }
-    nothing()
+    None
 }
 
-pub(crate) fn error(s: &[u8], method: Method) -> ReadMessage
+pub(crate) fn error(s: &[u8], method: Method) -> Option<Message>
     ensures { result ≡ checked (error_fields method s.now) s.now }
 {
     if s.len() < 28 {
-        return nothing();
+        return None;
     }
     let code = code_of(s);
     if code == 420 {
         if s.len() < 32 {
-            return nothing();
+            return None;
         }
-        return unknown_attributes(s, method, (u16_at(s, 30) / 2) as usize);
+        return unknown_attributes(s, method, (u16::at(s, 30) / 2) as usize);
     }
     plain_error(s, method, code)
 }

@@ -4,16 +4,15 @@ use mathlib.Core.Path.{◌≡◌, refl}
 use mathlib.Core.Bool.{Bool, true, false, not}
 use mathlib.Core.List.{List}
 use borrow.Author.Tests.{not-false}
+use Rattle.std.proofs.Common.{Option, Some, None}
 use Rattle.choice.proofs.Laws.{chosen}
 use Rattle.address.specs.declared.TransportAddress.{TransportAddress}
 use Rattle.address.specs.declared.TransactionId.{TransactionId}
 use Rattle.stun.specs.AttributeNumbers as attribute
-use Rattle.stun.specs.declared.message.ValuePlace.{ValuePlace}
-use Rattle.stun.specs.declared.message.ValuePlace.TheVariants.{Value, Absent}
+use Rattle.stun.specs.declared.message.Attribute.{Attribute}
 use Rattle.stun.specs.declared.channel_data.ChannelMessage.{ChannelMessage}
-use Rattle.stun.specs.declared.channel_data.ChannelMessage.TheVariants.{Data, Malformed}
 use Rattle.stun.specs.Message.{attributes, first_of, channel_data_of}
-use Rattle.stun.specs.Values.{first_peer}
+use Rattle.stun.specs.Values.{peer_or_nobody, first_peer}
 use Rattle.slot.specs.declared.Slot.{Slot}
 use Rattle.slot.specs.declared.permissions.PermissionState.{PermissionState}
 use Rattle.slot.specs.declared.permissions.PermissionState.TheVariants.{Live, Lapsed, Never}
@@ -34,28 +33,29 @@ module _ (P : Out → Type 0) (drops : (cause : Cause) → P (dropped cause)) wh
   unless_dropped_lem false Never sent = drops never_permitted
 
   module _ (call : ClientCall) (s : List ℕ) (own : Bool) (slot : Slot) where
-    pub send_is : ((start len : ℕ) → first_of attribute.«data» (attributes s) ≡ Value start len
-        → permission_of call.time (first_peer s).peer slot ≡ Live → P (to_peer slot.allocation.port (first_peer s).peer start len))
+    pub send_is : ((value : Attribute) → first_of attribute.«data» (attributes s) ≡ Some value
+        → permission_of call.time (peer_or_nobody (first_peer s)) slot ≡ Live
+        → P (to_peer slot.allocation.port (peer_or_nobody (first_peer s)) value.start value.len))
         → P (send call s own slot)
     unfolding send
-    send_is sent = unless_dropped_lem (send_cause s own) (permission_of call.time (first_peer s).peer slot) (go (first_of attribute.«data» (attributes s)) refl)
+    send_is sent = unless_dropped_lem (send_cause s own) (permission_of call.time (peer_or_nobody (first_peer s)) slot) (go (first_of attribute.«data» (attributes s)) refl)
       where
-        go : (place : ValuePlace) → first_of attribute.«data» (attributes s) ≡ place → permission_of call.time (first_peer s).peer slot ≡ Live
+        go : (place : Option Attribute) → first_of attribute.«data» (attributes s) ≡ place → permission_of call.time (peer_or_nobody (first_peer s)) slot ≡ Live
             → P (sent_from s slot place)
-        go (Value start len) e live = sent start len e live
-        go Absent e live = drops other_cause
+        go (Some value) e live = sent value e live
+        go None e live = drops other_cause
 
-    pub channelled_is : ((number start len : ℕ) → channel_data_of s ≡ Data number start len → has (find (numbered call.time number) slot.channels) ≡ true
-        → P (to_peer slot.allocation.port (at_or fresh_channel (find (numbered call.time number) slot.channels) slot.channels).peer start len))
+    pub channelled_is : ((message : ChannelMessage) → channel_data_of s ≡ Some message → has (find (numbered call.time message.number) slot.channels) ≡ true
+        → P (to_peer slot.allocation.port (at_or fresh_channel (find (numbered call.time message.number) slot.channels) slot.channels).peer message.start message.len))
         → P (send_channel_data call s own slot)
     unfolding send_channel_data
     channelled_is sent = go (channel_data_of s) refl
       where
-        go : (message : ChannelMessage) → channel_data_of s ≡ message → P (channelled_from call slot own message)
-        go (Data number start len) e =
-            let there = has (find (numbered call.time number) slot.channels) in
-            chosen P (not own) (λ _. drops other_cause) (λ _. chosen P (not there) (λ _. drops other_cause) (λ n. sent number start len e (not-false there n)))
-        go Malformed e = drops other_cause
+        go : (read : Option ChannelMessage) → channel_data_of s ≡ read → P (channelled_from call slot own read)
+        go (Some message) e =
+            let there = has (find (numbered call.time message.number) slot.channels) in
+            chosen P (not own) (λ _. drops other_cause) (λ _. chosen P (not there) (λ _. drops other_cause) (λ n. sent message e (not-false there n)))
+        go None e = drops other_cause
 
   pub from_peer_is : (time : ℕ) (source : TransportAddress) (id : TransactionId) (s : List ℕ) (own : Bool) (slot : Slot)
       → (permission_of time source slot ≡ Live → P (to_client slot.allocation.five_tuple (relayed time source id s slot)))
@@ -66,7 +66,7 @@ module _ (P : Out → Type 0) (drops : (cause : Cause) → P (dropped cause)) wh
 -- ---- Send and ChannelData write no reply
 module _ (call : ClientCall) (s : List ℕ) (own : Bool) (slot : Slot) (reply : List ℕ) where
   pub send_quiet : reply_after reply (send call s own slot) ≡ reply
-  send_quiet = send_is (λ out. reply_after reply out ≡ reply) (λ cause. refl) call s own slot (λ start len e live. refl)
+  send_quiet = send_is (λ out. reply_after reply out ≡ reply) (λ cause. refl) call s own slot (λ value e live. refl)
 
   pub channelled_quiet : reply_after reply (send_channel_data call s own slot) ≡ reply
-  channelled_quiet = channelled_is (λ out. reply_after reply out ≡ reply) (λ cause. refl) call s own slot (λ number start len e there. refl)
+  channelled_quiet = channelled_is (λ out. reply_after reply out ≡ reply) (λ cause. refl) call s own slot (λ message e there. refl)

@@ -1,15 +1,13 @@
 -- Document 01's 'Data': Send, ChannelData and a peer's datagram. 'Data never extends an expiry': none of them changes a slot.
-use Rattle.std.specs.Prelude.{ℕ, Bool, true, false, not, List, [], ◌∷◌}
+use Rattle.std.specs.Prelude.{ℕ, Bool, true, false, not, List, [], ◌∷◌, Option, Some, None}
 use Rattle.choice.specs.Choice.{pick, any}
 use Rattle.address.specs.declared.TransportAddress.{TransportAddress}
 use Rattle.address.specs.declared.TransactionId.{TransactionId}
-use Rattle.stun.specs.declared.message.ValuePlace.{ValuePlace}
-use Rattle.stun.specs.declared.message.ValuePlace.TheVariants.{Value, Absent}
+use Rattle.stun.specs.declared.message.Attribute.{Attribute}
 use Rattle.stun.specs.declared.channel_data.ChannelMessage.{ChannelMessage}
-use Rattle.stun.specs.declared.channel_data.ChannelMessage.TheVariants.{Data, Malformed}
 use Rattle.stun.specs.AttributeNumbers as attribute
 use Rattle.stun.specs.Message.{attributes, first_of, channel_data_of}
-use Rattle.stun.specs.Values.{first_peer}
+use Rattle.stun.specs.Values.{peer_or_nobody, first_peer}
 use Rattle.messages.specs.Messages.{channel_data, data_indication}
 use Rattle.slot.specs.declared.Slot.{Slot}
 use Rattle.slot.specs.declared.permissions.PermissionState.{PermissionState}
@@ -37,9 +35,9 @@ unless_dropped false Lapsed out = dropped permission_lapsed
 unless_dropped false Never out = dropped never_permitted
 
 -- 'DATA missing'
-abbrev pub data_missing : ValuePlace → Bool
-data_missing (Value start len) = false
-data_missing Absent = true
+abbrev pub data_missing : Option Attribute → Bool
+data_missing (Some value) = false
+data_missing None = true
 
 -- the causes of a Send beside the permission: 'unknown attribute, no live allocation, peer missing, malformed or IPv6, DATA missing'
 unfoldable pub send_cause : List ℕ → Bool → Bool
@@ -53,24 +51,24 @@ send_cause s own =
     ∷ [])
 
 -- a Send's data, to its peer
-abbrev pub sent_from : List ℕ → Slot → ValuePlace → Out
-sent_from s slot (Value start len) = to_peer slot.allocation.port (first_peer s).peer start len
-sent_from s slot Absent = dropped other_cause
+abbrev pub sent_from : List ℕ → Slot → Option Attribute → Out
+sent_from s slot (Some value) = to_peer slot.allocation.port (peer_or_nobody (first_peer s)) value.start value.len
+sent_from s slot None = dropped other_cause
 
 -- 'Send: unknown attribute, no live allocation, peer missing, malformed or IPv6, DATA missing, or no live permission for the peer's IP
 -- address: dropped. User is not looked at.'
 unfoldable pub send : ClientCall → List ℕ → Bool → Slot → Out
 send call s own slot =
-    unless_dropped (send_cause s own) (permission_of call.time (first_peer s).peer slot)
+    unless_dropped (send_cause s own) (permission_of call.time (peer_or_nobody (first_peer s)) slot)
     (sent_from s slot (first_of attribute.«data» (attributes s)))
 
-abbrev pub channelled_from : ClientCall → Slot → Bool → ChannelMessage → Out
-channelled_from call slot own (Data number start len) =
-    let found = find (numbered call.time number) slot.channels in
+abbrev pub channelled_from : ClientCall → Slot → Bool → Option ChannelMessage → Out
+channelled_from call slot own (Some message) =
+    let found = find (numbered call.time message.number) slot.channels in
     pick (not own) (dropped other_cause)
     (pick (not (has found)) (dropped other_cause)
-    (to_peer slot.allocation.port (at_or fresh_channel found slot.channels).peer start len))
-channelled_from call slot own Malformed = dropped other_cause
+    (to_peer slot.allocation.port (at_or fresh_channel found slot.channels).peer message.start message.len))
+channelled_from call slot own None = dropped other_cause
 
 -- 'ChannelData: number, length, data; under 4 bytes, length over what follows, no live allocation, or channel not live: dropped;
 -- permissions are not consulted; spare bytes are ignored.'

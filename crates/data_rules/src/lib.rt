@@ -11,25 +11,25 @@ use address::{TransactionId, TransportAddress};
 use messages::{put_channel_data, put_data_indication};
 use rules::answer::Outcome;
 use rules::requests::ClientCall;
-use rules::values::{any_unknown, ipv4_of, ipv6_peer, is_ipv6, malformed_peer};
+use rules::values::{any_unknown, ipv4_of, is_ipv6};
+use slot::Slot;
 use slot::channels::{channel_at, channel_by_number, channel_by_peer};
 use slot::permissions::{PermissionState, permission_state};
-use slot::{Slot, has};
-use stun::channel_data::{ChannelMessage, read_channel_data};
+use stun::channel_data::read_channel_data;
 use stun::kinds::AttributeKind;
 use stun::message::first_attribute;
-use stun::values::first_peer;
+use stun::peers::first_peer;
 
 // What the permissions say of the peer's IP address.
+#[tactic(auto, unfolding(crate::specs::Data::permission_of))]
 fn permission_of(time: u64, peer: TransportAddress, slot: Slot) -> PermissionState
     ensures { result ≡ permission_of time peer slot }
 {
-    let address = peer.address;
-    let permissions = slot.permissions;
-    permission_state(time, address, permissions)
+    permission_state(time, peer.address, slot.permissions)
 }
 
 // A Send indication.
+#[tactic(auto, unfolding(crate::specs::Data::send, crate::specs::Data::send_cause, crate::specs::Data::unless_dropped, choice::specs::Choice::any, rules::specs::Values::malformed_peer, rules::specs::Values::ipv6_peer))]
 pub fn send(s: &[u8], call: ClientCall, own: bool, slot: Slot) -> Outcome
     requires { 20 ≤ length s.now }
     ensures { result ≡ outcome_of (send call s.now own slot) }
@@ -40,57 +40,49 @@ pub fn send(s: &[u8], call: ClientCall, own: bool, slot: Slot) -> Outcome
     if !own {
         return Outcome::DroppedOther;
     }
-    let value = first_peer(s);
-    if malformed_peer(value) {
+    let Some(peer) = first_peer(s) else {
+        return Outcome::DroppedOther;
+    };
+    if is_ipv6(peer.address) {
         return Outcome::DroppedOther;
     }
-    if ipv6_peer(value) {
+    let Some(value) = first_attribute(s, AttributeKind::DATA) else {
         return Outcome::DroppedOther;
-    }
-    let peer = value.peer;
-    let allocation = slot.allocation;
-    match first_attribute(s, AttributeKind::DATA) {
-        stun::message::ValuePlace::Value { start, len } => {
-            match permission_of(call.time, peer, slot) {
-                PermissionState::Live => Outcome::ToPeer {
-                    port: allocation.port,
-                    peer,
-                    start,
-                    len,
-                },
-                PermissionState::Lapsed => Outcome::DroppedLapsed,
-                PermissionState::Never => Outcome::DroppedNever,
-            }
-        }
-        stun::message::ValuePlace::Absent => Outcome::DroppedOther,
+    };
+    match permission_of(call.time, peer, slot) {
+        PermissionState::Live => Outcome::ToPeer {
+            port: slot.allocation.port,
+            peer,
+            start: value.start,
+            len: value.len,
+        },
+        PermissionState::Lapsed => Outcome::DroppedLapsed,
+        PermissionState::Never => Outcome::DroppedNever,
     }
 }
 
 // A ChannelData message.
+#[tactic(auto, unfolding(crate::specs::Data::send_channel_data))]
 pub fn send_channel_data(s: &[u8], call: ClientCall, own: bool, slot: Slot) -> Outcome
     ensures { result ≡ outcome_of (send_channel_data call s.now own slot) }
 {
-    match read_channel_data(s) {
-        ChannelMessage::Data { number, start, len } => {
-            if !own {
-                return Outcome::DroppedOther;
-            }
-            let channels = slot.channels;
-            let found = channel_by_number(call.time, number, channels);
-            if !has(found) {
-                return Outcome::DroppedOther;
-            }
-            let channel = channel_at(found, channels);
-            let peer = channel.peer;
-            let allocation = slot.allocation;
-            Outcome::ToPeer {
-                port: allocation.port,
-                peer,
-                start,
-                len,
-            }
-        }
-        ChannelMessage::Malformed => Outcome::DroppedOther,
+    let Some(message) = read_channel_data(s) else {
+        return Outcome::DroppedOther;
+    };
+    if !own {
+        return Outcome::DroppedOther;
+    }
+    let channels = slot.channels;
+    let found = channel_by_number(call.time, message.number, channels);
+    if found.is_none() {
+        return Outcome::DroppedOther;
+    }
+    let channel = channel_at(found, channels);
+    Outcome::ToPeer {
+        port: slot.allocation.port,
+        peer: channel.peer,
+        start: message.start,
+        len: message.len,
     }
 }
 
@@ -108,12 +100,11 @@ fn relay_data(
 {
     let channels = slot.channels;
     let found = channel_by_peer(time, source, channels);
-    if has(found) {
+    if found.is_some() {
         let channel = channel_at(found, channels);
         return put_channel_data(reply, channel.number, s);
     }
-    let address = source.address;
-    put_data_indication(reply, id, ipv4_of(address), source.port, s)
+    put_data_indication(reply, id, ipv4_of(source.address), source.port, s)
 }
 
 // A peer's datagram, with the live slot of its relay port if there is one.
@@ -132,15 +123,13 @@ pub fn relay_from_peer(
     if !own {
         return Outcome::DroppedOther;
     }
-    let address = source.address;
-    if is_ipv6(address) {
+    if is_ipv6(source.address) {
         return Outcome::DroppedOther;
     }
     match permission_of(time, source, slot) {
         PermissionState::Live => {
             let len = relay_data(s, reply, time, source, id, slot);
-            let allocation = slot.allocation;
-            let five_tuple = allocation.five_tuple;
+            let five_tuple = slot.allocation.five_tuple;
             Outcome::ToClient { five_tuple, len }
         }
         PermissionState::Lapsed => Outcome::DroppedLapsed,

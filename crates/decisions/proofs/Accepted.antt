@@ -13,7 +13,7 @@ use Rattle.stun.specs.declared.kinds.Method.{Method}
 use Rattle.stun.specs.declared.kinds.Method.TheVariants.{CreatePermission, ChannelBind}
 use Rattle.stun.specs.declared.values.NumberValue.{NumberValue}
 use Rattle.stun.specs.declared.values.NumberValue.TheVariants.{Number, WrongLength, Absent}
-use Rattle.stun.specs.Values.{transaction_id_of, peers, first_peer}
+use Rattle.stun.specs.Values.{transaction_id_of, peer_or_nobody, peers, first_peer}
 use Rattle.messages.specs.Messages.{refresh_success, bare_success}
 use Rattle.slot.specs.declared.Slot.{Slot}
 use Rattle.slot.specs.Slot.{is_channel_number, number_taken, peer_taken, permit, bind}
@@ -140,7 +140,7 @@ module _ (call : ClientCall) (s : List ℕ) (slot : Slot) (out : Out) where
       pub slot_is : slot ≡ bound call.time number peer was
       pub out_is : out ≡ to_client call.five_tuple (bare_success ChannelBind (transaction_id_of s))
 
-    pub binds : {denied : Bool} → channel_bind call s denied own was ≡ write slot out → Binds denied (number_given (channel_number s)) (first_peer s).peer
+    pub binds : {denied : Bool} → channel_bind call s denied own was ≡ write slot out → Binds denied (number_given (channel_number s)) (peer_or_nobody (first_peer s))
     unfolding channel_bind channel_bind_code
     binds {denied} e =
         let q = answered _ _ s _ _ e in
@@ -148,7 +148,7 @@ module _ (call : ClientCall) (s : List ℕ) (slot : Slot) (out : Out) where
         let number = passed _ 400 _ (some (omega arith)) owner.1 in
         let peer = passed _ 400 _ (some (omega arith)) number.1 in
         let range = passed (not (is_channel_number (number_given (channel_number s)))) 400 _ (some (omega arith)) peer.1 in
-        let ipv4 = passed (is_ipv6 (first_peer s).peer.address) 443 _ (some (omega arith)) range.1 in
+        let ipv4 = passed (is_ipv6 (peer_or_nobody (first_peer s)).address) 443 _ (some (omega arith)) range.1 in
         let reachable = passed denied 403 _ (some (omega arith)) ipv4.1 in
         let taken = passed _ 400 _ (some (omega arith)) reachable.1 in
         let leads = passed _ 400 _ (some (omega arith)) taken.1 in

@@ -7,16 +7,18 @@ use native.Mathlib.Nat.{zero-add}
 use native.Mathlib.Omega.{arith}
 use lib.ListN.{length, get_or}
 use lib.Seq.{ext_get_or}
+use Rattle.std.proofs.Common.{Option, Some, None}
 use Rattle.wire.specs.Wire.{num}
 use Rattle.stun.specs.declared.kinds.Class.{Class}
 use Rattle.stun.specs.Kinds.{message_kind_of}
 use Rattle.stun.specs.AttributeNumbers as attribute
 use Rattle.stun.specs.Message.{sorted, is_well_formed, attributes, first_of, channel_data_of}
-use Rattle.stun.specs.Values.{first_peer}
+use Rattle.stun.specs.Values.{peer_or_nobody, first_peer}
 use Rattle.choice.specs.Choice.{pick, any}
 use Rattle.choice.proofs.Laws.{chosen}
 use Rattle.slot.specs.declared.Slot.{Slot}
-use Rattle.slot.specs.declared.Found.{Found}
+use Rattle.std.specs.Prelude.{Option, Some, None}
+use Rattle.std.specs.Bool.{then_some}
 use Rattle.slot.specs.Inner.{held_in}
 use Rattle.slot.specs.Search.{find, has, at_or}
 use Rattle.slot.specs.Slot.{fresh_slot, holds_port}
@@ -34,7 +36,6 @@ use Rattle.rules.specs.Change.{other_cause, Out, dropped, Change, keep, write, o
 use Rattle.rules.specs.Inner.{Gives, Answers}
 use Rattle.allocation_rules.specs.Allocations.{port_for}
 use Rattle.stun.specs.declared.channel_data.ChannelMessage.{ChannelMessage}
-use Rattle.stun.specs.declared.channel_data.ChannelMessage.TheVariants.{Data, Malformed}
 use Rattle.rules.specs.declared.requests.ClientCall.{ClientCall}
 use Rattle.rules.specs.Values.{any_unknown}
 use Rattle.data_rules.specs.Data.{permission_of, unless_dropped, send_cause, sent_from, send, channelled_from, send_channel_data, peer_cause, relay_from_peer}
@@ -108,7 +109,12 @@ held_at time slots k (suc n) (suc i) h =
     held_at time slots (suc k) n i (omega arith)
     ∙ ap (λ (j : ℕ). has (find (in_slot (holds_port time (49152 + j))) slots)) (let z : suc k + i ≡ k + suc i = omega arith in z)
 
-ports_held_lem : {wanted : Wanted} {slots : List Slot} {survey : Survey} → Surveyed slots wanted survey
+-- what is wanted where a test holds
+pub then_is : (b : Bool) (n : ℕ) → then_some b n ≡ pick b (Some n) None
+then_is true n = refl
+then_is false n = refl
+
+ports_held_lem : {wanted : Wanted} {user : ℕ} {slots : List Slot} {survey : Survey} → Surveyed slots wanted user survey
     → held_in survey.ports ≡ ports_held wanted.time slots 0 128
 ports_held_lem {wanted} {slots} {survey} w =
     let width = Bits.length_held survey.ports in
@@ -117,7 +123,7 @@ ports_held_lem {wanted} {slots} {survey} w =
 
 -- what Allocate asks of the whole table, from a look over it
 pub surveyed : (call : FromClient) {slots : List Slot} {survey : Survey} {own free : Bool} {port : ℕ}
-    → Surveyed slots (wanted_by (Client call) (Asked.Allocate)) survey → own ≡ has survey.own → free ≡ has survey.free
+    → Surveyed slots (wanted_by (Client call) (Asked.Allocate)) call.user survey → own ≡ has survey.own → free ≡ has survey.free
     → port ≡ port_for (held_in survey.ports) call.start
     → ◌≡◌ {A = Room} (record { own = own; held = survey.held; free = free; port = port }) (room_for call slots)
 unfolding keyed
@@ -131,19 +137,19 @@ surveyed call {slots} {survey} w o f p =
 
 -- a request about the caller's own slot
 module _ (call : FromClient) (asked : Asked) {survey : Survey} {own : Slot} {reply reply' : List ℕ} {answer : Answer} {there : Bool} (h : there ≡ has survey.own) where
-  pub own_answers : (rule : Bool → Slot → Change) → Answers (rule there own) own reply reply' answer
+  pub own_answers : (rule : Bool → Slot → Change) → Answers (rule there own) reply reply' answer
       → (slots : List Slot) → Looked slots (wanted_by (Client call) asked) survey → own ≡ at_or fresh_slot survey.own slots
-      → Answers (about_own call slots rule).change own reply reply' answer
+      → Answers (about_own call slots rule).change reply reply' answer
   unfolding keyed
   own_answers rule w slots l e =
-      subst (λ (f : Found). Answers (rule (has f) (at_or fresh_slot f slots)) own reply reply' answer) l.own
-      (subst (λ (x : Slot). Answers (rule (has survey.own) x) own reply reply' answer) e
-      (subst (λ (b : Bool). Answers (rule b own) own reply reply' answer) h w))
+      subst (λ (f : Option ℕ). Answers (rule (has f) (at_or fresh_slot f slots)) reply reply' answer) l.own
+      (subst (λ (x : Slot). Answers (rule (has survey.own) x) reply reply' answer) e
+      (subst (λ (b : Bool). Answers (rule b own) reply reply' answer) h w))
 
 -- the same of Allocate, whose rule is told in another way whether there is one
 pub own-slot-answers : (call : FromClient) {survey : Survey} {own : Slot} {reply reply' : List ℕ} {answer : Answer} (rule : Slot → Change)
-    → Answers (rule own) own reply reply' answer → (slots : List Slot) → Looked slots (wanted_by (Client call) Asked.Allocate) survey
-    → own ≡ at_or fresh_slot survey.own slots → Answers (rule (slot_in slots (own_place call slots))) own reply reply' answer
+    → Answers (rule own) reply reply' answer → (slots : List Slot) → Looked slots (wanted_by (Client call) Asked.Allocate) survey
+    → own ≡ at_or fresh_slot survey.own slots → Answers (rule (slot_in slots (own_place call slots))) reply reply' answer
 own-slot-answers call rule = own_answers call Asked.Allocate refl (λ there. rule)
 
 pub quiet_gives : {out : Out} {outcome : Outcome} (reply : List ℕ) → outcome ≡ outcome_of out → reply_after reply out ≡ reply → Gives out reply reply outcome
@@ -152,47 +158,47 @@ quiet_gives reply e r = record { outcome_is = e; reply_is = sym r }
 pub peer_answers : (call : FromPeer) {survey : Survey} {own : Slot} {reply reply' : List ℕ} {outcome : Outcome} {there : Bool} → there ≡ has survey.own
     → (rule : Bool → Slot → Out) → Gives (rule there own) reply reply' outcome
     → (slots : List Slot) → Looked slots (wanted_by (Peer call) Asked.Nothing) survey → own ≡ at_or fresh_slot survey.own slots
-    → Answers (about_found slots (find (in_slot (holds_port call.time call.port)) slots) (λ b slot. keep (rule b slot))).change own reply reply' (unwritten outcome own)
+    → Answers (about_found slots (find (in_slot (holds_port call.time call.port)) slots) (λ b slot. keep (rule b slot))).change reply reply' (unwritten outcome)
 unfolding keyed
 peer_answers call {survey} {own} {reply} {reply'} {outcome} {there} h rule g slots l e =
-    subst (λ (f : Found). Answers (keep (rule (has f) (at_or fresh_slot f slots))) own reply reply' (unwritten outcome own)) l.own
-    (subst (λ (x : Slot). Answers (keep (rule (has survey.own) x)) own reply reply' (unwritten outcome own)) e
-    (subst (λ (b : Bool). Answers (keep (rule b own)) own reply reply' (unwritten outcome own)) h (gives_kept own g)))
+    subst (λ (f : Option ℕ). Answers (keep (rule (has f) (at_or fresh_slot f slots))) reply reply' (unwritten outcome)) l.own
+    (subst (λ (x : Slot). Answers (keep (rule (has survey.own) x)) reply reply' (unwritten outcome)) e
+    (subst (λ (b : Bool). Answers (keep (rule b own)) reply reply' (unwritten outcome)) h (gives_kept g)))
 
 -- data for which no slot was found is dropped
 module _ (call : ClientCall) (s : List ℕ) (slot : Slot) where
   send_unfound : send call s false slot ≡ dropped other_cause
   unfolding send send_cause any unless_dropped
   send_unfound =
-      chosen (λ b. unless_dropped b (permission_of call.time (first_peer s).peer slot) (sent_from s slot (first_of attribute.«data» (attributes s))) ≡ dropped other_cause)
+      chosen (λ b. unless_dropped b (permission_of call.time (peer_or_nobody (first_peer s)) slot) (sent_from s slot (first_of attribute.«data» (attributes s))) ≡ dropped other_cause)
       (any_unknown s) (λ _. refl) (λ _. refl)
 
   channelled_unfound : send_channel_data call s false slot ≡ dropped other_cause
   unfolding send_channel_data
   channelled_unfound = go (channel_data_of s)
     where
-      go : (message : ChannelMessage) → channelled_from call slot false message ≡ dropped other_cause
-      go (Data number start len) = refl
-      go Malformed = refl
+      go : (read : Option ChannelMessage) → channelled_from call slot false read ≡ dropped other_cause
+      go (Some message) = refl
+      go None = refl
 
-dropped_answers : {out : Out} (own : Slot) (reply : List ℕ) → out ≡ dropped other_cause → Answers (keep out) own reply reply (unwritten DroppedOther own)
-dropped_answers own reply e = rw e (gives_kept own (quiet_gives reply refl refl))
+dropped_answers : {out : Out} (reply : List ℕ) → out ≡ dropped other_cause → Answers (keep out) reply reply (unwritten DroppedOther)
+dropped_answers reply e = rw e (gives_kept (quiet_gives reply refl refl))
 
 module _ {survey : Survey} (own : Slot) (reply : List ℕ) (none : has survey.own ≡ false) (s : List ℕ) where
   pub client_dropped : (denied : Bool) (call : FromClient) (asked : Asked) → is_data asked ≡ true → (slots : List Slot) → Looked slots (wanted_by (Client call) asked) survey
-      → own ≡ at_or fresh_slot survey.own slots → Answers (on_asked denied call s slots asked).change own reply reply (unwritten DroppedOther own)
+      → own ≡ at_or fresh_slot survey.own slots → Answers (on_asked denied call s slots asked).change reply reply (unwritten DroppedOther)
   client_dropped denied call Asked.Allocate y = absurd (false≢true y)
   client_dropped denied call Asked.Refresh y = absurd (false≢true y)
   client_dropped denied call Asked.CreatePermission y = absurd (false≢true y)
   client_dropped denied call Asked.ChannelBind y = absurd (false≢true y)
   client_dropped denied call Asked.Send y =
-      own_answers call Asked.Send (sym none) (λ there slot. keep (send (as_rules call) s there slot)) (dropped_answers own reply (send_unfound (as_rules call) s own))
+      own_answers call Asked.Send (sym none) (λ there slot. keep (send (as_rules call) s there slot)) (dropped_answers reply (send_unfound (as_rules call) s own))
   client_dropped denied call Asked.ChannelData y =
-      own_answers call Asked.ChannelData (sym none) (λ there slot. keep (send_channel_data (as_rules call) s there slot)) (dropped_answers own reply (channelled_unfound (as_rules call) s own))
-  client_dropped denied call Asked.Nothing y = λ slots l e. dropped_answers own reply refl
+      own_answers call Asked.ChannelData (sym none) (λ there slot. keep (send_channel_data (as_rules call) s there slot)) (dropped_answers reply (channelled_unfound (as_rules call) s own))
+  client_dropped denied call Asked.Nothing y = λ slots l e. dropped_answers reply refl
 
   pub peer_dropped : (denied : Bool) (call : FromPeer) (slots : List Slot) → Looked slots (wanted_by (Peer call) Asked.Nothing) survey
-      → own ≡ at_or fresh_slot survey.own slots → Answers (decided denied (Peer call) s slots).change own reply reply (unwritten DroppedOther own)
+      → own ≡ at_or fresh_slot survey.own slots → Answers (decided denied (Peer call) s slots).change reply reply (unwritten DroppedOther)
   unfolding decided relay_from_peer peer_cause any unless_dropped
   peer_dropped denied call = peer_answers call (sym none) (relay_from_peer call.time call.source call.id s) (quiet_gives reply refl refl)
 

@@ -7,6 +7,7 @@ use native.Mathlib.Omega.{arith}
 use lib.Dec.{eqb, leb}
 use lib.ListN.{length, length-take}
 use borrow.Author.Tests.{leb-true}
+use Rattle.std.proofs.Common.{Some, None}
 use Rattle.wire.specs.Wire.{num}
 use Rattle.choice.specs.Choice.{pick}
 use Rattle.choice.proofs.Laws.{chosen}
@@ -15,7 +16,7 @@ use Rattle.address.specs.declared.TransportAddress.{TransportAddress}
 use Rattle.address.specs.declared.TransactionId.{TransactionId}
 use Rattle.stun.specs.declared.kinds.Method.{Method}
 use Rattle.stun.specs.declared.kinds.Method.TheVariants.{CreatePermission, ChannelBind}
-use Rattle.stun.specs.declared.channel_data.ChannelMessage.TheVariants.{Data, Malformed}
+use Rattle.stun.specs.declared.channel_data.ChannelMessage.{ChannelMessage}
 use Rattle.stun.specs.AttributeNumbers as attribute
 use Rattle.stun.specs.Message.{unknown_types, channel_data_of}
 use Rattle.stun.specs.Values.{transaction_id_of}
@@ -80,21 +81,20 @@ module _ (call : ClientCall) (s : List ℕ) where
 
   -- the value of DATA lies in the message
   pub send_fits : (own : Bool) (slot : Slot) → Fits s (send call s own slot)
-  send_fits own slot = send_is (Fits s) (λ cause. tt) call s own slot (λ start len e live. first_in attribute.«data» s e)
+  send_fits own slot = send_is (Fits s) (λ cause. tt) call s own slot (λ value e live. first_in attribute.«data» s e)
 
   -- 'length over what follows ..: dropped'
   pub channelled_fits : (own : Bool) (slot : Slot) → Fits s (send_channel_data call s own slot)
   unfolding channel_data_of
-  channelled_fits own slot = channelled_is (Fits s) (λ cause. tt) call s own slot (λ number start len e there. data_in number start len e)
+  channelled_fits own slot = channelled_is (Fits s) (λ cause. tt) call s own slot (λ message e there. data_in message e)
     where
-      data_in : (number start len : ℕ) → channel_data_of s ≡ Data number start len → start + len ≤ length s
-      data_in number start len e = go (leb 4 (length s)) (leb (4 + num s 2 2) (length s)) refl e
+      data_in : (message : ChannelMessage) → channel_data_of s ≡ Some message → message.start + message.len ≤ length s
+      data_in message e = go (leb 4 (length s)) (leb (4 + num s 2 2) (length s)) refl e
         where
-          go : (a b : Bool) → leb (4 + num s 2 2) (length s) ≡ b → pick (a && b) (Data (num s 0 2) 4 (num s 2 2)) Malformed ≡ Data number start len → start + len ≤ length s
+          go : (a b : Bool) → leb (4 + num s 2 2) (length s) ≡ b → pick (a && b) (Some (record { number = num s 0 2; start = 4; len = num s 2 2 })) None ≡ Some message → message.start + message.len ≤ length s
           go true true q e =
-              let from : 4 ≡ start = cc in
-              let size : num s 2 2 ≡ len = cc in
-              rw (← from, ← size) (leb-true (4 + num s 2 2) (length s) q)
+              let is : ◌≡◌ {A = ChannelMessage} (record { number = num s 0 2; start = 4; len = num s 2 2 }) message = cc in
+              rw (← is) (leb-true (4 + num s 2 2) (length s) q)
           go true false q e = let z : ◌≡◌ {A = ℕ} 0 1 = cc in absurd (omega arith)
           go false b q e = let z : ◌≡◌ {A = ℕ} 0 1 = cc in absurd (omega arith)
 

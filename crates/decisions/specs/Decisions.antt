@@ -1,8 +1,7 @@
 -- What is decided of a call that is not refused: the slot that it is about, and what becomes of it.
 use Rattle.std.specs.Prelude.{ℕ, zero, suc, ◌+◌, Bool, false, List, [], ◌∷◌}
 use Rattle.slot.specs.declared.Slot.{Slot}
-use Rattle.slot.specs.declared.Found.{Found}
-use Rattle.slot.specs.declared.Found.TheVariants.{Nothing}
+use Rattle.std.specs.Prelude.{Option, None}
 use Rattle.slot.specs.Search.{find, has, at_or}
 use Rattle.slot.specs.Slot.{fresh_slot, holds, holds_user, holds_port}
 use Rattle.table.specs.Table.{in_slot, count, lapsed}
@@ -31,11 +30,11 @@ abbrev pub as_rules : FromClient → ClientCall
 as_rules call = record { time = call.time; user = call.user; relay = call.relay; five_tuple = call.five_tuple }
 
 -- the live slot of the caller's 5-tuple, the lowest
-abbrev pub own_place : FromClient → List Slot → Found
+abbrev pub own_place : FromClient → List Slot → Option ℕ
 own_place call slots = find (in_slot (holds call.time call.five_tuple)) slots
 
 -- the slot at that place, or a fresh one
-abbrev pub slot_in : List Slot → Found → Slot
+abbrev pub slot_in : List Slot → Option ℕ → Slot
 slot_in slots place = at_or fresh_slot place slots
 
 -- what Allocate asks
@@ -66,11 +65,11 @@ names_denied nodes (Peer call) s = false
 -- ---- What is decided: the slot that a call is about, and what becomes of it
 
 pub record Decision : Type 0 where
-  pub place : Found
+  pub place : Option ℕ
   pub change : Change
 
 -- about the slot that was found: the rule is told whether there is one, and the slot, or a fresh one
-abbrev pub about_found : List Slot → Found → (Bool → Slot → Change) → Decision
+abbrev pub about_found : List Slot → Option ℕ → (Bool → Slot → Change) → Decision
 about_found slots found rule = record { place = found; change = rule (has found) (slot_in slots found) }
 
 -- about the caller's own
@@ -86,7 +85,7 @@ on_asked denied call s slots Asked.CreatePermission = about_own call slots (crea
 on_asked denied call s slots Asked.ChannelBind = about_own call slots (channel_bind (as_rules call) s denied)
 on_asked denied call s slots Asked.Send = about_own call slots (λ own slot. keep (send (as_rules call) s own slot))
 on_asked denied call s slots Asked.ChannelData = about_own call slots (λ own slot. keep (send_channel_data (as_rules call) s own slot))
-on_asked denied call s slots Asked.Nothing = record { place = Nothing; change = keep (dropped other_cause) }
+on_asked denied call s slots Asked.Nothing = record { place = None; change = keep (dropped other_cause) }
 
 -- a client's datagram by what it asks, and by whether it names a denied peer; a peer's is about the live slot with the relay port
 unfoldable pub decided : (denied : Bool) → Call → List ℕ → List Slot → Decision

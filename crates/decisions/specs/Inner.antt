@@ -1,8 +1,8 @@
 -- What the functions that decide promise each other and the relay. No public statement rests on it.
-use Rattle.std.specs.Prelude.{ℕ, ◌^◌, ◌≤◌, Bool, true, false, List, ◌≡◌, length}
+use Rattle.std.specs.Prelude.{ℕ, ◌^◌, ◌≤◌, Bool, true, false, List, ◌≡◌, length, None}
 use Rattle.choice.specs.Choice.{pick}
 use Rattle.slot.specs.declared.Slot.{Slot}
-use Rattle.slot.specs.declared.Found.{Found}
+use Rattle.std.specs.Prelude.{Option, Some, None}
 use Rattle.slot.specs.Search.{at_or}
 use Rattle.slot.specs.Slot.{fresh_slot}
 use Rattle.table.specs.declared.keys.Key.{Key}
@@ -69,8 +69,8 @@ is_data Asked.ChannelData = true
 is_data Asked.Nothing = true
 
 abbrev pub wanted_by : Call → Asked → Wanted
-wanted_by (Client call) asked = record { time = call.time; key = Key.Client call.five_tuple; room = allocates asked; user = call.user }
-wanted_by (Peer call) asked = record { time = call.time; key = Key.Port call.port; room = false; user = 0 }
+wanted_by (Client call) asked = record { time = call.time; key = Key.Client call.five_tuple; room_for = pick (allocates asked) (Some call.user) None }
+wanted_by (Peer call) asked = record { time = call.time; key = Key.Port call.port; room_for = None }
 
 abbrev pub asking : Asked → Bool → Asking
 asking asked denied = record { asked = asked; denied = denied }
@@ -82,11 +82,11 @@ abbrev pub saw : Asking → Survey → Seen
 saw asking survey = record { asked = asking.asked; denied = asking.denied; survey = survey }
 
 -- the slot that is written
-abbrev pub place_for : Asked → Survey → Found
+abbrev pub place_for : Asked → Survey → Option ℕ
 place_for asked survey = pick (allocates asked) survey.free survey.own
 
-abbrev pub unwritten : Outcome → Slot → Answer
-unwritten outcome slot = record { outcome = outcome; writes = false; slot = slot }
+abbrev pub unwritten : Outcome → Answer
+unwritten outcome = record { outcome = outcome; written = None }
 
 abbrev pub place_in : Seen → ℕ
 place_in seen = place_of (place_for seen.asked seen.survey)
@@ -95,4 +95,4 @@ place_in seen = place_of (place_for seen.asked seen.survey)
 abbrev pub Answering : Call → Asked → (List Slot → Change) → Survey → Slot → (reply reply' : List ℕ) → Answer → Type 0
 Answering call asked change survey own reply reply' answer =
     (slots : List Slot) → Looked slots (wanted_by call asked) survey → own ≡ at_or fresh_slot survey.own slots
-    → Answers (change slots) own reply reply' answer
+    → Answers (change slots) reply reply' answer

@@ -5,9 +5,9 @@ ghost use Rattle.decisions.specs.Client.{request_asks, kind_asks, asked_by};
 use stun::channel_data::sort;
 use stun::kinds::{Class, MessageKind, Method};
 use stun::message::well_formed;
-use wire::u16_at;
+use wire::Number;
 
-#[derive(Clone, Copy)]
+#[derive(Clone, Copy, PartialEq, Eq)]
 pub enum Asked {
     Allocate,
     Refresh,
@@ -35,11 +35,8 @@ fn asked_by_kind(kind: MessageKind) -> Asked
 {
     match kind {
         MessageKind::Request(method) => asked_by_request(method),
-        MessageKind::Success(_) => Asked::Nothing,
-        MessageKind::Error(_) => Asked::Nothing,
         MessageKind::SendIndication => Asked::Send,
-        MessageKind::DataIndication => Asked::Nothing,
-        MessageKind::Other => Asked::Nothing,
+        _ => Asked::Nothing,
     }
 }
 
@@ -49,7 +46,7 @@ pub(crate) fn asked_by(s: &[u8]) -> Asked
     match sort(s) {
         Class::Stun => {
             if well_formed(s) {
-                return asked_by_kind(MessageKind::of(u16_at(s, 0)));
+                return asked_by_kind(MessageKind::of(u16::at(s, 0)));
             }
             Asked::Nothing
         }

@@ -22,7 +22,7 @@ use permission_rules::denials::{any_denied, first_denied};
 use permission_rules::permissions::create_permission;
 use rules::answer::{Answer, Outcome};
 use rules::requests::ClientCall;
-use slot::{Slot, fresh_slot, has};
+use slot::{Slot, fresh_slot};
 use table::keys::{Key, Wanted};
 use table::surveys::{Survey, place_of};
 
@@ -31,15 +31,7 @@ pub mod client;
 fn allocates(asked: Asked) -> bool
     ensures { result ≡ allocates asked }
 {
-    match asked {
-        Asked::Allocate => true,
-        Asked::Refresh => false,
-        Asked::CreatePermission => false,
-        Asked::ChannelBind => false,
-        Asked::Send => false,
-        Asked::ChannelData => false,
-        Asked::Nothing => false,
-    }
+    asked == Asked::Allocate
 }
 
 // Whether a request names a denied peer. No other datagram is looked at.
@@ -48,13 +40,9 @@ fn asks_denied(nodes: &[u16; 1536], datagram: &[u8], asked: Asked) -> bool
     ensures { result ≡ asks_denied nodes.now datagram.now asked }
 {
     match asked {
-        Asked::Allocate => false,
-        Asked::Refresh => false,
         Asked::CreatePermission => any_denied(nodes, datagram),
         Asked::ChannelBind => first_denied(nodes, datagram),
-        Asked::Send => false,
-        Asked::ChannelData => false,
-        Asked::Nothing => false,
+        _ => false,
     }
 }
 
@@ -96,8 +84,7 @@ pub fn wanted_by(call: Call, asking: Asking) -> Wanted
             Wanted {
                 time: c.time,
                 key,
-                room: allocates(asked),
-                user: c.user as u8,
+                room_for: allocates(asked).then_some(c.user as u8),
             }
         }
         Call::Peer(p) => {
@@ -105,8 +92,7 @@ pub fn wanted_by(call: Call, asking: Asking) -> Wanted
             Wanted {
                 time: p.time,
                 key,
-                room: false,
-                user: 0,
+                room_for: None,
             }
         }
     }
@@ -137,7 +123,7 @@ pub fn finds_none(seen: Seen) -> bool
 {
     let survey = seen.survey;
     let own = survey.own;
-    !has(own)
+    own.is_none()
 }
 
 // The place of the slot that was found.
@@ -194,22 +180,21 @@ fn answer_allocate(
     let free = survey.free;
     let ports = survey.ports;
     let asked = allocation_rules::Room {
-        own: has(found),
+        own: found.is_some(),
         held: survey.held,
-        free: has(free),
+        free: free.is_some(),
         port: port_for(ports, call.start),
     };
     allocate(datagram, reply, client_call(call), asked, own)
 }
 
 // Nothing passes, and no slot is written.
-fn answer_dropped(own: Slot) -> Answer
-    ensures { result ≡ unwritten DroppedOther own }
+fn answer_dropped() -> Answer
+    ensures { result ≡ unwritten DroppedOther }
 {
     Answer {
         outcome: Outcome::DroppedOther,
-        writes: false,
-        slot: own,
+        written: None,
     }
 }
 
@@ -222,7 +207,7 @@ fn pass_client(
     own: Slot,
 ) -> Outcome
     requires { (call.user ≤ 32) × (asked ≡ asked_by datagram.now) }
-    ensures { is_data asked ≡ true → ((denied : Bool) (reply : List ℕ) → Answering (Client call) asked (λ slots. (on_asked denied call datagram.now slots asked).change) survey own reply reply (unwritten result own)) }
+    ensures { is_data asked ≡ true → ((denied : Bool) (reply : List ℕ) → Answering (Client call) asked (λ slots. (on_asked denied call datagram.now slots asked).change) survey own reply reply (unwritten result)) }
 {
     let found = survey.own;
     match asked {
@@ -230,8 +215,8 @@ fn pass_client(
         Asked::Refresh => Outcome::DroppedOther,
         Asked::CreatePermission => Outcome::DroppedOther,
         Asked::ChannelBind => Outcome::DroppedOther,
-        Asked::Send => send(datagram, client_call(call), has(found), own),
-        Asked::ChannelData => send_channel_data(datagram, client_call(call), has(found), own),
+        Asked::Send => send(datagram, client_call(call), found.is_some(), own),
+        Asked::ChannelData => send_channel_data(datagram, client_call(call), found.is_some(), own),
         Asked::Nothing => Outcome::DroppedOther,
     }
 }
@@ -245,7 +230,7 @@ fn pass_peer(
     own: Slot,
 ) -> Outcome
     requires { ReadyPeer call datagram.now reply.old }
-    ensures { Answering (Peer call) AskedIs.Nothing (λ slots. (decided false (Peer call) datagram.now slots).change) survey own reply.old reply.new (unwritten result own) }
+    ensures { Answering (Peer call) AskedIs.Nothing (λ slots. (decided false (Peer call) datagram.now slots).change) survey own reply.old reply.new (unwritten result) }
 {
     let found = survey.own;
     relay_from_peer(
@@ -254,7 +239,7 @@ fn pass_peer(
         call.time,
         call.source,
         call.id,
-        has(found),
+        found.is_some(),
         own,
     )
 }
@@ -263,22 +248,16 @@ fn pass_peer(
 pub fn is_data(seen: Seen) -> bool
     ensures { result ≡ is_data seen.asked }
 {
-    let asked = seen.asked;
-    match asked {
-        Asked::Allocate => false,
-        Asked::Refresh => false,
-        Asked::CreatePermission => false,
-        Asked::ChannelBind => false,
-        Asked::Send => true,
-        Asked::ChannelData => true,
-        Asked::Nothing => true,
-    }
+    matches!(
+        seen.asked,
+        Asked::Send | Asked::ChannelData | Asked::Nothing
+    )
 }
 
 // What data does: a slot is neither written nor passed on.
 pub fn pass_data(datagram: &[u8], reply: &mut [u8], call: Call, seen: Seen, own: Slot) -> Outcome
     requires { (Ready call datagram.now reply.old × (seen.asked ≡ asked_for call datagram.now)) × (is_data seen.asked ≡ true) }
-    ensures { Answering call seen.asked (λ slots. (decided seen.denied call datagram.now slots).change) seen.survey own reply.old reply.new (unwritten result own) }
+    ensures { Answering call seen.asked (λ slots. (decided seen.denied call datagram.now slots).change) seen.survey own reply.old reply.new (unwritten result) }
 {
     let asked = seen.asked;
     let survey = seen.survey;
@@ -304,16 +283,30 @@ fn answer_client(
     let found = survey.own;
     match asked {
         Asked::Allocate => answer_allocate(datagram, reply, call, survey, own),
-        Asked::Refresh => refresh(datagram, reply, client_call(call), has(found), own),
+        Asked::Refresh => refresh(datagram, reply, client_call(call), found.is_some(), own),
         Asked::CreatePermission => {
-            create_permission(datagram, reply, client_call(call), denied, has(found), own)
+            create_permission(
+                datagram,
+                reply,
+                client_call(call),
+                denied,
+                found.is_some(),
+                own,
+            )
         }
         Asked::ChannelBind => {
-            channel_bind(datagram, reply, client_call(call), denied, has(found), own)
+            channel_bind(
+                datagram,
+                reply,
+                client_call(call),
+                denied,
+                found.is_some(),
+                own,
+            )
         }
-        Asked::Send => answer_dropped(own),
-        Asked::ChannelData => answer_dropped(own),
-        Asked::Nothing => answer_dropped(own),
+        Asked::Send => answer_dropped(),
+        Asked::ChannelData => answer_dropped(),
+        Asked::Nothing => answer_dropped(),
     }
 }
 
@@ -326,7 +319,7 @@ pub fn answer_call(datagram: &[u8], reply: &mut [u8], call: Call, seen: Seen, ow
     let survey = seen.survey;
     match call {
         Call::Client(c) => answer_client(datagram, reply, c, asked, seen.denied, survey, own),
-        Call::Peer(_) => answer_dropped(own),
+        Call::Peer(_) => answer_dropped(),
     }
 }
 
@@ -336,22 +329,4 @@ pub fn answer_unfound(datagram: &[u8], reply: &mut [u8], call: Call, seen: Seen)
     ensures { Answering call seen.asked (λ slots. (decided seen.denied call datagram.now slots).change) seen.survey fresh_slot reply.old reply.new result }
 {
     answer_call(datagram, reply, call, seen, fresh_slot())
-}
-
-pub fn outcome_of(answer: Answer) -> Outcome
-    ensures { result ≡ answer.outcome }
-{
-    answer.outcome
-}
-
-pub fn slot_of(answer: Answer) -> Slot
-    ensures { result ≡ answer.slot }
-{
-    answer.slot
-}
-
-pub fn writes_none(answer: Answer) -> bool
-    ensures { result ≡ not answer.writes }
-{
-    !answer.writes
 }

@@ -13,9 +13,8 @@ use lib.ListN.{length}
 use borrow.Author.Tests.{eq-eqb, eqb-true}
 use Rattle.choice.specs.Choice.{pick, any}
 use Rattle.choice.proofs.Laws.{chosen}
-use Rattle.denied.specs.declared.prefixes.Line.{Line}
-use Rattle.denied.specs.declared.prefixes.Line.TheVariants.{Prefix, Bad}
-use Rattle.denied.specs.Prefixes.{covers, covered}
+use Rattle.std.specs.Prelude.{None, Some}
+use Rattle.denied.specs.Prefixes.{Line, prefix, covers, covered}
 use Rattle.denied.specs.Inner.{LineFits}
 use Rattle.denied.specs.Tree.{child_of, is_listed, is_child, bit_of, denied_below, denied}
 use Rattle.denied.specs.Denied.{prefixes_of, read_denied}
@@ -52,15 +51,15 @@ covered_is (line ∷ lines) a = (to (covered_is lines a).0, λ p. from (covered_
 
 -- a prefix of at least so many bits covers the address
 abbrev CoveredFrom : List Line → (a bits : ℕ) → Type 0
-CoveredFrom lines a bits = (address length : ℕ) × Memᴰ (Prefix address length) lines × (bits ≤ length) × (address / 2 ^ (32 - length) ≡ a / 2 ^ (32 - length))
+CoveredFrom lines a bits = (address length : ℕ) × Memᴰ (prefix address length) lines × (bits ≤ length) × (address / 2 ^ (32 - length) ≡ a / 2 ^ (32 - length))
 
 -- of any number of bits: some line does
 covered_from : (lines : List Line) (a : ℕ) → CoveredFrom lines a 0 ↔ Covered lines a
-covered_from lines a = (λ p. (Prefix p.0 p.1, p.2, eq-eqb (p.0 / 2 ^ (32 - p.1)) (a / 2 ^ (32 - p.1)) p.4), λ p. from p.0 p.1 p.2)
+covered_from lines a = (λ p. (prefix p.0 p.1, p.2, eq-eqb (p.0 / 2 ^ (32 - p.1)) (a / 2 ^ (32 - p.1)) p.4), λ p. from p.0 p.1 p.2)
   where
     from : (line : Line) → Memᴰ line lines → covers line a ≡ true → CoveredFrom lines a 0
-    from (Prefix b n) m e = (b, n, m, omega arith, eqb-true (b / 2 ^ (32 - n)) (a / 2 ^ (32 - n)) e)
-    from Bad m e = absurd (false≢true e)
+    from (Some p) m e = (p.address, p.length, m, omega arith, eqb-true (p.address / 2 ^ (32 - p.length)) (a / 2 ^ (32 - p.length)) e)
+    from None m e = absurd (false≢true e)
 
 -- ---- The lookup
 
@@ -92,7 +91,7 @@ module _ {lines : List Line} {nodes : List ℕ} {count : ℕ} {strings : List Bi
 
       -- and where a longer prefix covers the address there is one
       child_there : CoveredFrom lines a (bits + 1) → 0 < child_of nodes node (bit_of a left)
-      child_there p = at (place_of empty_string ((s.leads (leading a (bits + 1))).1 (inr (p.0, p.1, p.2, p.3, ap (string (bits + 1)) (agree (fits (Prefix p.0 p.1) p.2).1)))))
+      child_there p = at (place_of empty_string ((s.leads (leading a (bits + 1))).1 (inr (p.0, p.1, p.2, p.3, ap (string (bits + 1)) (agree (fits (prefix p.0 p.1) p.2).1)))))
         where
           agree : p.1 ≤ 32 → a / 2 ^ (32 - (bits + 1)) ≡ p.0 / 2 ^ (32 - (bits + 1))
           agree f =
@@ -128,7 +127,7 @@ module _ {lines : List Line} {nodes : List ℕ} {count : ℕ} {strings : List Bi
   below_is : (left bits node : ℕ) → bits + left ≡ 32 → node < count → string_at strings node ≡ leading a bits
       → (denied_below nodes node a left ≡ true) ↔ CoveredFrom lines a bits
   unfolding denied_below
-  below_is zero bits node deep there here = (listed_covers bits node there here, λ p. covers_listed bits node there here p (all p (fits (Prefix p.0 p.1) p.2).1 p.3))
+  below_is zero bits node deep there here = (listed_covers bits node there here, λ p. covers_listed bits node there here p (all p (fits (prefix p.0 p.1) p.2).1 p.3))
     where
       all : (p : CoveredFrom lines a bits) → p.1 ≤ 32 → bits ≤ p.1 → bits ≡ p.1
       all p h l = omega arith
@@ -155,7 +154,7 @@ denied_exactly text old e a h = denied_is (nodes_are text old e).1 (all_fit text
 -- fewer lines have no other leading strings
 leads_within : {lines lines' : List Line} → ((line : Line) → Memᴰ line lines → Memᴰ line lines') → (w : BitString) → Leads lines w → Leads lines' w
 leads_within f w (inl e) = inl e
-leads_within f w (inr p) = inr (p.0, p.1, f (Prefix p.0 p.1) p.2, p.3, p.4)
+leads_within f w (inr p) = inr (p.0, p.1, f (prefix p.0 p.1) p.2, p.3, p.4)
 
 -- the lines up to one are lines
 front : (before after : List Line) (line last : Line) → Memᴰ line (before ++ last ∷ []) → Memᴰ line (before ++ last ∷ after)
@@ -183,11 +182,11 @@ module _ (text text' old old' : List ℕ) (within : (line : Line) → Memᴰ lin
       go (inl e) = e
       go (inr (inl e)) =
           let b = nine_is_bad text' old' e in
-          absurd (text_good text old taken (within Bad (rw b.2 (Memᴰ.append_right b.0 (Memᴰ.head refl)))))
+          absurd (text_good text old taken (within None (rw b.2 (Memᴰ.append_right b.0 (Memᴰ.head refl)))))
       go (inr (inr e)) =
           let m = ten_needs_more text' old' e in
           let many = m.6.many in
-          let few = strings_within m.4 (rw many m.6.different) (λ w x. leads_within (λ line y. rw m.5 (front m.0 m.1 line (Prefix m.2 m.3) y)) w (m.6.leads w x)) in
+          let few = strings_within m.4 (rw many m.6.different) (λ w x. leads_within (λ line y. rw m.5 (front m.0 m.1 line (prefix m.2 m.3) y)) w (m.6.leads w x)) in
           let most = (nodes_are text old taken).1.at_most in
           let y : ⊥ = omega arith in
           absurd y

@@ -1,8 +1,7 @@
 -- Request 2's 'leading bit strings of a listed prefix', the strings that the nodes of a tree stand for.
 use Rattle.std.specs.Prelude.{ℕ, ◌+◌, ◌-◌, ◌*◌, ◌/◌, ◌^◌, ◌≤◌, ◌<◌, ◌≡◌, ◌⊎◌, ◌↔◌, true, length, get_or}
 use mathlib.Core.List.{List, Memᴰ}
-use Rattle.denied.specs.declared.prefixes.Line.{Line}
-use Rattle.denied.specs.declared.prefixes.Line.TheVariants.{Prefix}
+use Rattle.denied.specs.Prefixes.{Line, prefix}
 use Rattle.denied.specs.Tree.{child_of, is_listed}
 
 -- a bit string: how many bits it has, and the number that they are
@@ -26,11 +25,11 @@ longer w bit = string (w.bits + 1) (2 * w.value + bit)
 
 -- 'leading bit string of a listed prefix, the empty string always among them'
 abbrev pub Leads : List Line → BitString → Type 0
-Leads lines w = (w ≡ empty_string) ⊎ ((address length : ℕ) × Memᴰ (Prefix address length) lines × (w.bits ≤ length) × (w ≡ leading address w.bits))
+Leads lines w = (w ≡ empty_string) ⊎ ((address length : ℕ) × Memᴰ (prefix address length) lines × (w.bits ≤ length) × (w ≡ leading address w.bits))
 
 -- a whole listed prefix
 abbrev pub Listed : List Line → BitString → Type 0
-Listed lines w = (address length : ℕ) × Memᴰ (Prefix address length) lines × (w ≡ leading address length)
+Listed lines w = (address length : ℕ) × Memᴰ (prefix address length) lines × (w ≡ leading address length)
 
 abbrev pub string_at : List BitString → ℕ → BitString
 string_at strings k = get_or strings k empty_string

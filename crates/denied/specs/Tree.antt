@@ -2,10 +2,9 @@
 --
 -- A tree is a list of numbers, three for each node, in the order of their making: its child nodes for a bit 0 and for a bit 1, and whether its bit
 -- string is a listed prefix. 0 is no child: node 0 is that of the empty string, which is no other's child.
-use Rattle.std.specs.Prelude.{ℕ, zero, suc, ◌+◌, ◌-◌, ◌*◌, ◌/◌, ◌%◌, ◌^◌, Bool, true, false, not, List, eqb, ltb, get_or, set, replicate}
+use Rattle.std.specs.Prelude.{ℕ, zero, suc, ◌+◌, ◌-◌, ◌*◌, ◌/◌, ◌%◌, ◌^◌, Bool, true, false, not, List, eqb, ltb, get_or, set, replicate, Option, None, Some}
 use Rattle.choice.specs.Choice.{pick, both}
 use Rattle.denied.specs.declared.tree.Tree.{Tree}
-use Rattle.denied.specs.declared.tree.Grown.{Grown}
 
 -- ---- Nodes
 
@@ -47,19 +46,16 @@ tree nodes count = record { nodes = nodes; count = count }
 abbrev pub empty_tree : Tree
 empty_tree = tree none_denied 1
 
-abbrev pub grown : Bool → List ℕ → ℕ → Grown
-grown fits nodes count = record { fits = fits; tree = tree nodes count }
-
 -- a tree that goes down from the node by so many bits of the address, those above the last `rest`: a node that is missing is made, and the last
--- one's string is listed. Where a node is missing and there are 512, it does not fit
-unfoldable pub grow : (nodes : List ℕ) (count node a rest bits : ℕ) → Grown
-grow nodes count node a rest zero = grown true (set nodes (3 * node + 2) 1) count
+-- one's string is listed. Where a node is missing and there are 512, it does not fit, and there is none
+unfoldable pub grow : (nodes : List ℕ) (count node a rest bits : ℕ) → Option Tree
+grow nodes count node a rest zero = Some (tree (set nodes (3 * node + 2) 1) count)
 grow nodes count node a rest (suc bits) =
     let bit = bit_of a (rest + bits) in
     let child = child_of nodes node bit in
     pick (is_child child) (grow nodes count child a rest bits)
-    (pick (ltb count 512) (grow (set nodes (3 * node + bit) count) (suc count) count a rest bits) (grown false nodes count))
+    (pick (ltb count 512) (grow (set nodes (3 * node + bit) count) (suc count) count a rest bits) None)
 
 -- 'one node for each different leading bit string of a listed prefix': the tree with a prefix more
-unfoldable pub with_prefix : Tree → (address length : ℕ) → Grown
+unfoldable pub with_prefix : Tree → (address length : ℕ) → Option Tree
 with_prefix tree address length = grow tree.nodes tree.count 0 address (32 - length) length

@@ -1,15 +1,17 @@
-// A line of the text: a prefix, or a bad line.
+// A line of the text: a prefix, or none where the line is bad.
 ghost use Rattle.std.specs.Prelude.{◌≡◌, ◌^◌, ◌≤◌};
-ghost use Rattle.denied.specs.Prefixes.{is_prefix, prefix_from, line_of};
-ghost use Rattle.denied.specs.Inner.{WordOf, LineFits};
+ghost use Rattle.denied.specs.Prefixes.{is_prefix, line_of};
+ghost use Rattle.denied.specs.Inner.{LineFits};
 
-use text::{Parsed, read_decimal, read_hex_word};
+use text::{read_decimal, read_hex_word};
 
-// A prefix is the first `length` bits of the address.
+const TAB: u8 = 9;
+
+// The first `length` bits of the address.
 #[derive(Clone, Copy)]
-pub enum Line {
-    Prefix { address: u32, length: u32 },
-    Bad,
+pub struct Prefix {
+    pub address: u32,
+    pub length: u32,
 }
 
 // 2^n.
@@ -30,35 +32,22 @@ fn is_prefix(address: u64, length: u64) -> bool
     address % power((32 - length) as u32) == 0
 }
 
-fn prefix_from(address: Parsed, length: Parsed) -> Line
-    requires { WordOf address }
-    ensures { result ≡ prefix_from address length }
-{
-    match address {
-        Parsed::Number(a) => match length {
-            Parsed::Number(n) => {
-                if is_prefix(a, n) {
-                    return Line::Prefix {
-                        address: a as u32,
-                        length: n as u32,
-                    };
-                }
-                Line::Bad
-            }
-            Parsed::Nothing => Line::Bad,
-        },
-        Parsed::Nothing => Line::Bad,
-    }
-}
-
-pub(crate) fn line_of(line: &[u8]) -> Line
+pub(crate) fn line_of(line: &[u8]) -> Option<Prefix>
     ensures { (result ≡ line_of line.now) × LineFits result }
 {
     if line.len() < 9 {
-        return Line::Bad;
+        return None;
     }
-    if line[8] != 9 {
-        return Line::Bad;
+    if line[8] != TAB {
+        return None;
     }
-    prefix_from(read_hex_word(line, 0), read_decimal(line, 9, line.len()))
+    let address = read_hex_word(&line[..8])?;
+    let length = read_decimal(&line[9..])?;
+    if !is_prefix(address, length) {
+        return None;
+    }
+    Some(Prefix {
+        address: address as u32,
+        length: length as u32,
+    })
 }

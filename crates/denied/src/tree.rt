@@ -3,19 +3,13 @@
 ghost use Rattle.std.specs.Prelude.{◌≡◌, ◌<◌, ◌≤◌};
 ghost use Rattle.denied.specs.Tree.{bit_of, child_of, is_listed, is_child, denied_below, denied, none_denied, empty_tree, with_prefix};
 
+use crate::prefixes::Prefix;
 use choice::both;
 
 #[derive(Clone, Copy)]
 pub struct Tree {
     pub nodes: [u16; 1536],
     pub count: usize,
-}
-
-// The tree with a prefix more, if it fits.
-#[derive(Clone, Copy)]
-pub struct Grown {
-    pub fits: bool,
-    pub tree: Tree,
 }
 
 // No prefix: the empty string's node alone.
@@ -40,17 +34,11 @@ fn bit_of(a: u32, k: u32) -> usize
     ((a >> k) % 2) as usize
 }
 
-fn wide(n: u16) -> usize
-    ensures { result ≡ n }
-{
-    n as usize
-}
-
 fn child_of(nodes: &[u16; 1536], node: usize, bit: usize) -> usize
     requires { (node < 512) × (bit < 2) }
     ensures { result ≡ child_of nodes.now node bit }
 {
-    wide(nodes[3 * node + bit])
+    usize::from(nodes[3 * node + bit])
 }
 
 fn is_listed(nodes: &[u16; 1536], node: usize) -> bool
@@ -95,28 +83,23 @@ pub fn is_denied(nodes: &[u16; 1536], a: u32) -> bool
 
 // ---- The tree of a text
 
-pub(crate) fn with_prefix(tree: Tree, address: u32, length: u32) -> Grown
-    requires { length ≤ 32 }
-    ensures { result ≡ with_prefix tree address length }
+// The tree with a prefix more, if it fits.
+pub(crate) fn with_prefix(tree: Tree, prefix: Prefix) -> Option<Tree>
+    requires { prefix.length ≤ 32 }
+    ensures { result ≡ with_prefix tree prefix.address prefix.length }
 {
     let mut nodes = tree.nodes;
     let mut count = tree.count;
-    let rest = 32 - length;
+    let rest = 32 - prefix.length;
     let mut node: usize = 0;
-    let mut bits = length;
-    while 0 < bits {
-        bits -= 1;
-        let bit = bit_of(address, rest + bits);
+    for bits in (0..prefix.length).rev() {
+        let bit = bit_of(prefix.address, rest + bits);
         let child = child_of(&nodes, node, bit);
         if is_child(child) {
             node = child;
         } else {
             if 512 <= count {
-                let full = Tree { nodes, count };
-                return Grown {
-                    fits: false,
-                    tree: full,
-                };
+                return None;
             }
             nodes[3 * node + bit] = count as u16;
             node = count;
@@ -124,9 +107,5 @@ pub(crate) fn with_prefix(tree: Tree, address: u32, length: u32) -> Grown
         }
     }
     nodes[3 * node + 2] = 1;
-    let whole = Tree { nodes, count };
-    Grown {
-        fits: true,
-        tree: whole,
-    }
+    Some(Tree { nodes, count })
 }

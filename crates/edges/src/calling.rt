@@ -2,10 +2,10 @@
 use crate::fields::{
     TAB, bytes, field_start, number, number_u8, number_u16, number_u32, peer, stop,
 };
-use crate::lent::not_sixty_four;
-use crate::printing::{write, write_byte, write_number, write_outcome};
+use crate::lent::relayed_over;
+use crate::printing::{write, write_byte, write_outcome};
 use address::{Address, FiveTuple, TransactionId, TransportAddress};
-use interface::incoming::{Call, call_of_client, call_of_peer};
+use interface::incoming::{Call, FromClient, FromPeer};
 use relay::{Held, held_datagram};
 use rules::answer::Outcome;
 use slot::fresh_slot;
@@ -41,18 +41,16 @@ pub(crate) fn read_setting(line: &[u8]) -> Setting {
     }
 }
 
-// The name of a case, its first field.
-pub(crate) fn write_name(rt: &impl Print, line: &[u8]) {
+// The name of a case, its first field. A line without one prepares a case.
+fn name(line: &[u8]) -> &[u8] {
     let from = field_start(line, 1);
     let to = stop(line, from, TAB);
-    write(rt, &line[from..to]);
-    write_byte(rt, b':');
+    &line[from..to]
 }
 
-// Whether a line has a name; one without prepares a case.
-fn is_named(line: &[u8]) -> bool {
-    let from = field_start(line, 1);
-    from < stop(line, from, TAB)
+pub(crate) fn write_name(rt: &impl Print, line: &[u8]) {
+    write(rt, name(line));
+    write_byte(rt, b':');
 }
 
 // What a reply holds before a call.
@@ -60,33 +58,27 @@ pub const UNTOUCHED: u8 = 0xaa;
 
 // Whether the reply is as it was from that place on.
 pub(crate) fn is_untouched(reply: &[u8], from: usize) -> bool {
-    for i in from..reply.len() {
-        if reply[i] != UNTOUCHED {
-            return false;
-        }
-    }
-    true
+    reply.iter().skip(from).all(|b| *b == UNTOUCHED)
 }
 
 // How many bytes of the reply are written.
 fn written(outcome: Outcome) -> usize {
     match outcome {
-        Outcome::ToClient { five_tuple: _, len } => len,
+        Outcome::ToClient { len, .. } => len,
         _ => 0,
     }
 }
 
 // The name, what the call gave, and the clock afterwards.
-fn write_case<'a>(rt: &impl Print, line: &[u8], after: Held, datagram: &'a [u8], reply: &'a [u8]) {
-    if !is_named(line) {
+fn write_case<'a>(rt: &impl Print, line: &[u8], after: &Held, datagram: &'a [u8], reply: &'a [u8]) {
+    if name(line).is_empty() {
         return;
     }
     let outcome = after.outcome;
     write_name(rt, line);
     write_byte(rt, b' ');
     write_outcome(rt, outcome, datagram, reply);
-    let kept = after.bookkeeping;
-    write_number(rt, b", clock ", kept.clock);
+    let _ = print!(rt; ", clock {}", after.bookkeeping.clock);
     if !is_untouched(reply, written(outcome)) {
         write(rt, b", the rest of the reply has changed");
     }
@@ -95,33 +87,13 @@ fn write_case<'a>(rt: &impl Print, line: &[u8], after: Held, datagram: &'a [u8],
 
 // The entry over the table, or where the setting says 63 or 65 slots, over a fresh one of so many.
 fn answered(held: Held, slots: usize, call: Call, datagram: &[u8], reply: &mut [u8]) -> Held {
-    let table = held.slots;
     let bookkeeping = held.bookkeeping;
-    if slots == 64 {
-        return held_datagram(table, bookkeeping, call, datagram, reply);
-    }
-    let outcome = not_sixty_four(
-        slots == 65,
-        fresh_slot(),
-        bookkeeping,
-        call,
-        datagram,
-        reply,
-    );
-    Held {
-        slots: table,
-        bookkeeping,
-        outcome,
-    }
-}
-
-// The same with as much of the reply as the setting says.
-fn within(held: Held, setting: Setting, call: Call, datagram: &[u8], reply: &mut [u8]) -> Held {
-    let size = setting.reply;
-    if size < reply.len() {
-        return answered(held, setting.slots, call, datagram, &mut reply[0..size]);
-    }
-    answered(held, setting.slots, call, datagram, reply)
+    let outcome = match slots {
+        64 => return held_datagram(held.slots, bookkeeping, call, datagram, reply),
+        65 => relayed_over::<65>(fresh_slot(), bookkeeping, call, datagram, reply),
+        _ => relayed_over::<63>(fresh_slot(), bookkeeping, call, datagram, reply),
+    };
+    Held { outcome, ..held }
 }
 
 // A call with the first len bytes, its line written.
@@ -134,22 +106,20 @@ fn called(
     len: usize,
     line: &[u8],
 ) -> Held {
-    if bytes.len() < len {
+    let Some(datagram) = bytes.get(..len) else {
         return held;
-    }
-    let datagram = &bytes[0..len];
+    };
     let mut reply = [UNTOUCHED; 1536];
-    let after = within(held, setting, call, datagram, &mut reply);
-    write_case(rt, line, after, datagram, &reply);
+    // As much of the reply as the setting says.
+    let size = reply.len().min(setting.reply);
+    let after = answered(held, setting.slots, call, datagram, &mut reply[..size]);
+    write_case(rt, line, &after, datagram, &reply);
     after
 }
 
 // As many bytes as a field has, or as is asked for.
 pub(crate) fn length_of(field: usize, asked: usize) -> usize {
-    if asked == 0 {
-        return field;
-    }
-    asked
+    if asked == 0 { field } else { asked }
 }
 
 // A call with the datagram of that field; bytes that the field does not have are 7.
@@ -180,7 +150,13 @@ pub(crate) fn from_client(rt: &impl Print, held: Held, setting: Setting, line: &
     let time = number(line, 2);
     let user = number_u32(line, 3);
     let start = number_u32(line, 4);
-    let call = call_of_client(time, user, start, 0xcb007105, five_tuple);
+    let call = Call::Client(FromClient {
+        time,
+        user,
+        start,
+        relay: 0xcb007105,
+        five_tuple,
+    });
     carried(rt, held, setting, call, line, 7)
 }
 
@@ -190,6 +166,11 @@ pub(crate) fn from_peer(rt: &impl Print, held: Held, setting: Setting, line: &[u
         middle: 0,
         low: 0,
     };
-    let call = call_of_peer(number(line, 2), peer(line, 3, 4), number_u16(line, 5), id);
+    let call = Call::Peer(FromPeer {
+        time: number(line, 2),
+        source: peer(line, 3, 4),
+        port: number_u16(line, 5),
+        id,
+    });
     carried(rt, held, setting, call, line, 6)
 }

@@ -4,8 +4,9 @@ use crate::fields::{address, bytes, number, number_u16};
 use crate::printing::{write, write_byte, write_lettered, write_number};
 use address::Address;
 use denied::tree::is_denied;
+use refusal::Refusal;
 use relay::Held;
-use state::{Bookkeeping, Denying, deny};
+use state::{Bookkeeping, deny};
 
 fn with_bookkeeping(held: Held, bookkeeping: Bookkeeping) -> Held {
     let mut made = held;
@@ -14,13 +15,12 @@ fn with_bookkeeping(held: Held, bookkeeping: Bookkeeping) -> Held {
 }
 
 // The number of the refusal, or how many nodes the tree has.
-fn write_reading(rt: &impl Print, line: &[u8], made: Denying) {
+fn write_reading(rt: &impl Print, line: &[u8], read: Result<usize, Refusal>) {
     write_name(rt, line);
     write_byte(rt, b' ');
-    if made.number == 0 {
-        write_number(rt, b"nodes ", made.count as u64);
-    } else {
-        write_lettered(rt, b'R', made.number as u64);
+    match read {
+        Ok(count) => write_number(rt, b"nodes ", count as u64),
+        Err(refusal) => write_lettered(rt, b'R', refusal.number() as u64),
     }
     write_byte(rt, b'\n');
 }
@@ -30,9 +30,9 @@ fn read_first(rt: &impl Print, held: Held, line: &[u8], bytes: &[u8], size: usiz
     if bytes.len() < size {
         return held;
     }
-    let made = deny(held.bookkeeping, &bytes[0..size]);
-    write_reading(rt, line, made);
-    let bookkeeping = made.bookkeeping;
+    let mut bookkeeping = held.bookkeeping;
+    let read = deny(&mut bookkeeping, &bytes[..size]);
+    write_reading(rt, line, read);
     with_bookkeeping(held, bookkeeping)
 }
 

@@ -2,7 +2,7 @@
 ghost use Rattle.std.specs.Prelude.{◌≤◌, length};
 
 use address::{Address, TransactionId, TransportAddress};
-use text::{Parsed, read_decimal, read_hex_bytes, read_hex_word};
+use text::{read_decimal, read_hex_bytes, read_hex_word};
 
 pub const TAB: u8 = 9;
 
@@ -52,17 +52,10 @@ pub(crate) fn letter(line: &[u8]) -> u8 {
     line[0]
 }
 
-fn value(read: Parsed) -> u64 {
-    match read {
-        Parsed::Number(n) => n,
-        Parsed::Nothing => 0,
-    }
-}
-
 pub(crate) fn number(line: &[u8], k: usize) -> u64 {
     let from = field_start(line, k);
     let to = stop(line, from, TAB);
-    value(read_decimal(line, from, to))
+    read_decimal(&line[from..to]).unwrap_or(0)
 }
 
 pub(crate) fn number_u32(line: &[u8], k: usize) -> u32 {
@@ -83,7 +76,8 @@ fn word(line: &[u8], from: usize) -> u32
     if line.len() - from < 8 {
         return 0;
     }
-    (value(read_hex_word(line, from)) % 4294967296) as u32
+    let word = read_hex_word(&line[from..from + 8]).unwrap_or(0);
+    (word % 4294967296) as u32
 }
 
 // An address of 8 or 32 hex digits.
@@ -133,6 +127,6 @@ pub(crate) fn bytes(line: &[u8], k: usize, out: &mut [u8]) -> usize {
     if out.len() < (to - from) / 2 + 1 {
         return 0;
     }
-    read_hex_bytes(line, from, to, out);
+    read_hex_bytes(&line[from..to], out);
     (to - from) / 2
 }

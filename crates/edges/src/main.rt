@@ -45,78 +45,62 @@ struct State {
 
 // `Q` and `P` make a call, `D` reads a text; the other letters make a table.
 fn changed(rt: &impl Print, held: Held, setting: Setting, line: &[u8]) -> Held {
-    let letter = fields::letter(line);
-    if letter == b'Q' {
-        return calling::from_client(rt, held, setting, line);
+    match fields::letter(line) {
+        b'Q' => calling::from_client(rt, held, setting, line),
+        b'P' => calling::from_peer(rt, held, setting, line),
+        b'D' => denials::read(rt, held, line),
+        letter => tables::made(held, letter, line),
     }
-    if letter == b'P' {
-        return calling::from_peer(rt, held, setting, line);
-    }
-    if letter == b'D' {
-        return denials::read(rt, held, line);
-    }
-    tables::made(held, letter, line)
 }
 
 // A line that shows something and changes nothing.
-fn show(rt: &impl Print, held: Held, slots: usize, line: &[u8]) {
-    let letter = fields::letter(line);
-    if letter == b'L' {
-        listings::show(rt, held, slots, line);
-        return;
+fn show(rt: &impl Print, state: &State, line: &[u8]) {
+    match fields::letter(line) {
+        b'L' => listings::show(rt, &state.held, state.setting.slots, line),
+        b'I' => denials::ask(rt, state.held, line),
+        letter => showing::show(rt, letter, line),
     }
-    if letter == b'I' {
-        denials::ask(rt, held, line);
-        return;
-    }
-    showing::show(rt, letter, line);
 }
 
 // `K` keeps the relay as it is, `B` goes back to it, `W` sets what calls bring besides.
 fn after(rt: &impl Print, state: State, line: &[u8]) -> State {
-    let mut next = state;
-    let held = state.held;
     match fields::letter(line) {
-        b'K' => {
-            next.kept = held;
-        }
-        b'B' => {
-            let kept = state.kept;
-            next.held = kept;
-        }
-        b'W' => {
-            let setting = calling::read_setting(line);
-            next.setting = setting;
-        }
+        b'K' => State {
+            kept: state.held,
+            ..state
+        },
+        b'B' => State {
+            held: state.kept,
+            ..state
+        },
+        b'W' => State {
+            setting: calling::read_setting(line),
+            ..state
+        },
         _ => {
-            let setting = state.setting;
-            show(rt, held, setting.slots, line);
-            let made = changed(rt, held, setting, line);
-            next.held = made;
+            show(rt, &state, line);
+            State {
+                held: changed(rt, state.held, state.setting, line),
+                ..state
+            }
         }
     }
-    next
 }
 
 fn run(rt: &impl Print, text: &[u8]) {
     let held = tables::empty();
-    let kept = held;
-    let setting = calling::usual();
     let mut state = State {
         held,
-        kept,
-        setting,
+        kept: held,
+        setting: calling::usual(),
     };
-    let mut from: usize = 0;
-    while from < text.len() {
-        let end = fields::stop(text, from, NEWLINE);
-        state = after(rt, state, &text[from..end]);
-        from = end + 1;
+    for line in text.split(|b| *b == NEWLINE) {
+        state = after(rt, state, line);
     }
 }
 
 fn main(rt: HostRuntime) {
     let mut text = [0u8; 131072];
     let n = read_full(&mut rt.stdin(), &mut text);
-    run(&rt, &text[0..n]);
+    run(&rt, &text[..n]);
 }

@@ -1,17 +1,18 @@
 // What outcomes that are made up send, and what the clients' reader says of bytes.
 use crate::calling::{length_of, write_name};
 use crate::fields::{bytes, number, number_u8};
-use crate::printing::{write_byte, write_data, write_line, write_message};
+use crate::printing::{Data, write_byte, write_line, write_message};
 use crate::vectors::vectors;
 use address::{Address, FiveTuple, TransportAddress};
 use interface::sending::what_to_send;
+use refusal::Refusal;
 use rules::answer::Outcome;
 
 // What an outcome shows of a datagram and a reply of eight bytes each.
 fn write_sent(rt: &impl Print, line: &[u8], outcome: Outcome) {
     write_name(rt, line);
-    write_data(rt, what_to_send(outcome, b"datagram", b"response"));
-    write_byte(rt, b'\n');
+    let data = what_to_send(outcome, b"datagram", b"response");
+    let _ = print!(rt; "{}\n", Data(data));
 }
 
 fn nobody() -> TransportAddress {
@@ -19,14 +20,11 @@ fn nobody() -> TransportAddress {
     TransportAddress { address, port: 0 }
 }
 
-// `R` name, number: a refusal; 0 is a drop.
+// `R` name, number: a refusal; a number that is none's is a drop.
 fn refused(rt: &impl Print, line: &[u8]) {
-    let number = number_u8(line, 2);
-    if number == 0 {
-        write_sent(rt, line, Outcome::DroppedOther);
-        return;
-    }
-    write_sent(rt, line, Outcome::Refused(number));
+    let refusal = Refusal::of(number_u8(line, 2));
+    let outcome = refusal.map_or(Outcome::DroppedOther, Outcome::Refused);
+    write_sent(rt, line, outcome);
 }
 
 // `S` name, len.
@@ -57,12 +55,6 @@ fn to_peer(rt: &impl Print, line: &[u8]) {
     );
 }
 
-fn write_first(rt: &impl Print, message: &[u8], len: usize) {
-    if len <= message.len() {
-        write_message(rt, &message[0..len]);
-    }
-}
-
 // `M` name, bytes, and how many there are in all, or 0; those that the field does not have are 7.
 fn message(rt: &impl Print, line: &[u8]) {
     let mut message = [7u8; 1600];
@@ -70,7 +62,9 @@ fn message(rt: &impl Print, line: &[u8]) {
     let all = number(line, 3) as usize;
     write_name(rt, line);
     write_byte(rt, b' ');
-    write_first(rt, &message, length_of(field, all));
+    if let Some(first) = message.get(..length_of(field, all)) {
+        write_message(rt, first);
+    }
     write_byte(rt, b'\n');
 }
 

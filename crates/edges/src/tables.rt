@@ -4,10 +4,7 @@ use crate::fields::{address, number, number_u8, number_u16, peer, transaction_id
 use address::{Address, FiveTuple, TransportAddress};
 use relay::Held;
 use rules::answer::Outcome;
-use slot::{
-    Allocation, Channel, Permission, Slot, fresh_slot, with_allocation, with_channels,
-    with_permissions, with_transaction_id,
-};
+use slot::{Allocation, Channel, Permission, Slot, fresh_slot};
 use state::{Bookkeeping, fresh_bookkeeping};
 
 pub(crate) fn empty() -> Held {
@@ -23,31 +20,33 @@ pub(crate) fn empty() -> Held {
 
 // The table with another clock.
 fn at_clock(held: Held, clock: u64) -> Held {
-    let mut made = held;
-    let kept = held.bookkeeping;
-    let denied = kept.denied;
-    let bookkeeping = Bookkeeping { clock, denied };
-    made.bookkeeping = bookkeeping;
-    made
+    let bookkeeping = Bookkeeping {
+        clock,
+        ..held.bookkeeping
+    };
+    Held {
+        bookkeeping,
+        ..held
+    }
 }
 
-fn slot_of(held: Held, place: usize) -> Slot {
+fn slot_of(held: &Held, place: usize) -> Slot {
     if place < 64 {
-        return held.slots[place];
+        held.slots[place]
+    } else {
+        fresh_slot()
     }
-    fresh_slot()
 }
 
 // The table with a slot in that place; from 64 on, in every place.
 fn with(held: Held, place: usize, slot: Slot) -> Held {
-    let mut made = held;
+    let mut slots = held.slots;
     if place < 64 {
-        made.slots[place] = slot;
-        return made;
+        slots[place] = slot;
+    } else {
+        slots = [slot; 64];
     }
-    let slots = [slot; 64];
-    made.slots = slots;
-    made
+    Held { slots, ..held }
 }
 
 // `A` place, user, client address, client port, relay port, expiry, transaction id.
@@ -67,13 +66,12 @@ fn allocation(held: Held, line: &[u8]) -> Held {
         port: number_u16(line, 5),
         expiry: number(line, 6),
     };
-    let slot = with_allocation(fresh_slot(), allocation);
-    let id = transaction_id(line, 7);
-    with(
-        held,
-        number(line, 1) as usize,
-        with_transaction_id(slot, id),
-    )
+    let slot = Slot {
+        allocation,
+        transaction_id: transaction_id(line, 7),
+        ..fresh_slot()
+    };
+    with(held, number(line, 1) as usize, slot)
 }
 
 // `E` place, entry, address, expiry: a permission in that entry; from 8 on, in every entry.
@@ -83,14 +81,21 @@ fn permission(held: Held, line: &[u8]) -> Held {
     let address = address(line, 3);
     let expiry = number(line, 4);
     let permission = Permission { address, expiry };
-    let slot = slot_of(held, place);
+    let slot = slot_of(&held, place);
     let mut permissions = slot.permissions;
     if entry < 8 {
         permissions[entry] = permission;
     } else {
         permissions = [permission; 8];
     }
-    with(held, place, with_permissions(slot, permissions))
+    with(
+        held,
+        place,
+        Slot {
+            permissions,
+            ..slot
+        },
+    )
 }
 
 // `C` place, entry, number, address, port, expiry: a channel in that entry; from 8 on, in every entry.
@@ -103,14 +108,14 @@ fn channel(held: Held, line: &[u8]) -> Held {
         peer,
         expiry: number(line, 6),
     };
-    let slot = slot_of(held, place);
+    let slot = slot_of(&held, place);
     let mut channels = slot.channels;
     if entry < 8 {
         channels[entry] = channel;
     } else {
         channels = [channel; 8];
     }
-    with(held, place, with_channels(slot, channels))
+    with(held, place, Slot { channels, ..slot })
 }
 
 // The table that a line makes: `N` an empty one, `T` with that clock, `A`, `E` and `C` with an allocation, a permission, a channel, `G` with a

@@ -1,12 +1,12 @@
 // RFC 5769's addresses, IPv4 and IPv6, written into a message and read back.
 ghost use Rattle.std.specs.Prelude.{◌≤◌, length};
 
-use crate::printing::{write, write_byte, write_hex, write_number, write_peer};
-use address::{Address, TransactionId};
+use crate::printing::{Hex, Peer};
+use address::{Address, TransactionId, TransportAddress};
 use messages::put_address;
 use stun::kinds::AttributeKind;
-use stun::values::address_at;
-use wire::put_u32_at;
+use stun::values::{NOBODY, address_at};
+use wire::put_at;
 
 // Writes the id of RFC 5769's messages at its place in a header, and the address with the port 32853 behind the header.
 fn put_message(message: &mut [u8], address: Address)
@@ -17,15 +17,18 @@ fn put_message(message: &mut [u8], address: Address)
         middle: 0xbc34d686,
         low: 0xfa87dfae,
     };
-    put_u32_at(message, 8, id.high);
-    put_u32_at(message, 12, id.middle);
-    put_u32_at(message, 16, id.low);
+    put_at(message, 8, id.high);
+    put_at(message, 12, id.middle);
+    put_at(message, 16, id.low);
+    let client = TransportAddress {
+        address,
+        port: 32853,
+    };
     put_address(
         &mut message[20..],
         AttributeKind::XOR_MAPPED_ADDRESS,
         id,
-        address,
-        32853,
+        client,
     );
 }
 
@@ -35,14 +38,13 @@ fn vector(rt: &impl Print, version: u64, address: Address, len: usize)
 {
     let mut message = [0u8; 64];
     put_message(&mut message, address);
-    write_number(rt, b"RFC 5769's IPv", version);
-    write(rt, b" address: written ");
-    let end = 24 + len;
-    write_hex(rt, &message[24..end]);
-    let value = address_at(&message, 24, len);
-    write(rt, b", read");
-    write_peer(rt, value.peer);
-    write_byte(rt, b'\n');
+    let written = &message[24..24 + len];
+    let read = address_at(&message, 24, len).unwrap_or(NOBODY);
+    let _ = print!(rt;
+        "RFC 5769's IPv{version} address: written {}, read{}\n",
+        Hex(written),
+        Peer(read)
+    );
 }
 
 pub(crate) fn vectors(rt: &impl Print) {

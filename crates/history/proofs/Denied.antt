@@ -6,6 +6,7 @@ use mathlib.Core.List.{List, [], ◌∷◌, ◌++◌}
 use native.Mathlib.Omega.{arith}
 use lib.Dec.{eqb}
 use lib.ListN.{length}
+use Rattle.std.proofs.Common.{Option}
 use Rattle.wire.proofs.Laws.{all_same}
 use Rattle.choice.specs.Choice.{any}
 use Rattle.choice.proofs.Laws.{chosen}
@@ -15,14 +16,12 @@ use Rattle.address.specs.declared.FiveTuple.{FiveTuple}
 use Rattle.address.specs.declared.TransportAddress.{TransportAddress}
 use Rattle.address.specs.declared.TransactionId.{TransactionId}
 use Rattle.stun.specs.declared.kinds.Method.{Method}
-use Rattle.stun.specs.declared.values.AddressValue.{AddressValue}
-use Rattle.stun.specs.Values.{peers, first_peer}
+use Rattle.stun.specs.Values.{peer_or_nobody, peers, first_peer}
 use Rattle.slot.specs.declared.Slot.{Slot}
 use Rattle.slot.specs.declared.Permission.{Permission}
 use Rattle.slot.specs.declared.permissions.PermissionState.TheVariants.{Live}
 use Rattle.slot.specs.declared.Channel.{Channel}
-use Rattle.slot.specs.declared.Found.{Found}
-use Rattle.slot.specs.declared.Found.TheVariants.{At, Nothing}
+use Rattle.std.specs.Prelude.{Option, Some, None}
 use Rattle.slot.specs.Search.{find, at_or}
 use Rattle.slot.specs.Slot.{fresh_permission, fresh_channel, fresh_slot, permission_entry, permit, channel_entry, bind, numbered}
 use Rattle.table.specs.Table.{slot_at}
@@ -66,10 +65,10 @@ unfolding accepted
 tree_stays st call s reply =
     acted (λ (x : Act). (state_after st x).bookkeeping.denied ≡ st.bookkeeping.denied) st call s reply (λ number. refl) (λ e. go (decision st call s).place (decision st call s).change)
   where
-    go : (found : Found) (change : Change) → (state_after st (done (at_time (time_of call) st) found change)).bookkeeping.denied ≡ st.bookkeeping.denied
-    go (At k) (keep out) = refl
-    go (At k) (write slot out) = refl
-    go Nothing change = refl
+    go : (found : Option ℕ) (change : Change) → (state_after st (done (at_time (time_of call) st) found change)).bookkeeping.denied ≡ st.bookkeeping.denied
+    go (Some k) (keep out) = refl
+    go (Some k) (write slot out) = refl
+    go None change = refl
 
 -- ---- The slots: no permission and no channel is for a denied address
 
@@ -113,19 +112,19 @@ module _ (nodes : List ℕ) where
   }
 
   -- where none of the addresses is denied, each may be permitted
-  peers_permitted : (t : ℕ) (l : List AddressValue) → any (denied_peer nodes) l ≡ false → MayPermit Clean t l
+  peers_permitted : (t : ℕ) (l : List (Option TransportAddress)) → any (denied_peer nodes) l ≡ false → MayPermit Clean t l
   unfolding any
   peers_permitted t [] e = tt
   peers_permitted t (v ∷ l) e =
       chosen (λ (b : Bool). b ≡ false → MayPermit Clean t (v ∷ l)) (denied_peer nodes v) (λ d q. absurd (false≢true (sym q)))
-      (λ d q. (permit_clean t v.peer.address d, peers_permitted t l q)) e
+      (λ d q. (permit_clean t (peer_or_nobody v).address d, peers_permitted t l q)) e
 
   renewed_clean : (expiry : ℕ) (slot : Slot) → Clean slot → Clean (renewed expiry slot)
   unfolding renewed
   renewed_clean expiry slot f = record { permissions = f.permissions; channels = f.channels }
 
   module _ (call : FromClient) (s : List ℕ) (l : List Slot) (were : (i : ℕ) → Clean (slot_at l i)) where
-    own_clean : (found : Found) → Clean (slot_in l found)
+    own_clean : (found : Option ℕ) → Clean (slot_in l found)
     own_clean found = found_keeps Clean fresh_clean found l were
 
     asked_clean : (asked : Asked) → Writes Clean (on_asked (asks_denied nodes s asked) call s l asked).change
@@ -170,13 +169,13 @@ module _ (nodes : List ℕ) where
   module _ (call : FromClient) (s : List ℕ) where
     send_kept : (own : Bool) (slot : Slot) → Clean slot → Kept (Client call) (send (as_rules call) s own slot)
     send_kept own slot f =
-        send_is (Kept (Client call)) (λ cause. tt) _ s own slot (λ start len e live. permitted_kept call.time (first_peer s).peer slot f live)
+        send_is (Kept (Client call)) (λ cause. tt) _ s own slot (λ value e live. permitted_kept call.time (peer_or_nobody (first_peer s)) slot f live)
 
     channelled_kept : (own : Bool) (slot : Slot) → Clean slot → Kept (Client call) (send_channel_data (as_rules call) s own slot)
     unfolding at_or
-    channelled_kept own slot f = channelled_is (Kept (Client call)) (λ cause. tt) _ s own slot (λ number start len e there. leads number (has_at _ there))
+    channelled_kept own slot f = channelled_is (Kept (Client call)) (λ cause. tt) _ s own slot (λ message e there. leads message.number (has_at _ there))
       where
-        leads : (number : ℕ) → (i : ℕ) × (find (numbered call.time number) slot.channels ≡ At i)
+        leads : (number : ℕ) → (i : ℕ) × (find (numbered call.time number) slot.channels ≡ Some i)
             → Reachable (at_or fresh_channel (find (numbered call.time number) slot.channels) slot.channels).peer.address
         leads number found =
             let live = (numbered_is call.time number _ (find_some (numbered call.time number) slot.channels fresh_channel found.0 found.1).0).0 in
@@ -210,13 +209,13 @@ module _ (nodes : List ℕ) where
 
   -- ---- One call
   abbrev KeptAct : Call → Act → Type 0
-  KeptAct call (refuse number) = Unit
+  KeptAct call (refuse refusal) = Unit
   KeptAct call (accept next out) = Kept call out
 
-  done_kept : (call : Call) (st : State) (found : Found) (change : Change) → Kept call (out_of change) → KeptAct call (done st found change)
-  done_kept call st (At k) (keep out) f = f
-  done_kept call st (At k) (write slot out) f = f
-  done_kept call st Nothing change f = f
+  done_kept : (call : Call) (st : State) (found : Option ℕ) (change : Change) → Kept call (out_of change) → KeptAct call (done st found change)
+  done_kept call st (Some k) (keep out) f = f
+  done_kept call st (Some k) (write slot out) f = f
+  done_kept call st None change f = f
 
   act_kept : (st : State) (a : Arrival) → ((i : ℕ) → Clean (slot_at st.slots i)) → KeptAct a.call (acts st a)
   unfolding accepted
@@ -247,14 +246,14 @@ module _ (nodes : List ℕ) (x : ℕ) (shut : denied nodes x ≡ true) (st : Sta
     where
       from_none : (call : Call) (act : Act) → KeptAct nodes call act → (C : FiveTuple) (n : ℕ) → outcome_of act ≡ ToClient C n → (R t p : ℕ) (id : TransactionId)
           → call ≡ Peer (record { time = t; source = record { address = V4 x; port = p }; port = R; id = id }) → ⊥
-      from_none call (refuse number) k C n q R t p id c = let z : ◌≡◌ {A = ℕ} 0 1 = cc in omega arith
+      from_none call (refuse refusal) k C n q R t p id c = let z : ◌≡◌ {A = ℕ} 0 1 = cc in omega arith
       from_none call (accept next (dropped cause)) k C n q R t p id c = dropped_not_sent cause q
       from_none call (accept next (to_client D m)) k C n q R t p id c = false≢true (sym (rw c at k) ∙ shut)
       from_none call (accept next (to_peer port peer start len)) k C n q R t p id c = let z : ◌≡◌ {A = ℕ} 0 1 = cc in omega arith
 
       to_none : (call : Call) (act : Act) → KeptAct nodes call act → (port : ℕ) (peer : TransportAddress) (start len : ℕ) → outcome_of act ≡ ToPeer port peer start len
           → peer.address ≡ V4 x → ⊥
-      to_none call (refuse number) k port peer start len q same = let z : ◌≡◌ {A = ℕ} 0 1 = cc in omega arith
+      to_none call (refuse refusal) k port peer start len q same = let z : ◌≡◌ {A = ℕ} 0 1 = cc in omega arith
       to_none call (accept next (dropped cause)) k port peer start len q same = dropped_not_relayed cause q
       to_none call (accept next (to_client D m)) k port peer start len q same = let z : ◌≡◌ {A = ℕ} 0 1 = cc in omega arith
       to_none call (accept next (to_peer port' peer' start' len')) k port peer start len q same =

@@ -11,19 +11,18 @@ use lib.Dec.{eqb}
 use lib.ListN.{length, set, replicate}
 use lib.Seq.{get_or-set_same, get_or-set_other}
 use borrow.Author.Tests.{eqb-true, not-false}
+use Rattle.std.proofs.Common.{Option}
 use Rattle.wire.proofs.Laws.{all_same}
 use Rattle.choice.specs.Choice.{pick, both}
 use Rattle.address.specs.declared.Address.{Address}
 use Rattle.address.specs.declared.TransportAddress.{TransportAddress}
-use Rattle.stun.specs.declared.values.AddressValue.{AddressValue}
+use Rattle.stun.specs.Values.{peer_or_nobody}
 use Rattle.slot.specs.declared.Permission.{Permission}
 use Rattle.slot.specs.declared.Channel.{Channel}
 use Rattle.slot.specs.declared.Slot.{Slot}
-use Rattle.slot.specs.declared.Placed.{Placed}
-use Rattle.slot.specs.declared.Found.{Found}
-use Rattle.slot.specs.declared.Found.TheVariants.{At, Nothing}
+use Rattle.std.specs.Prelude.{Option, Some, None}
 use Rattle.slot.specs.Search.{find, has, put_at, at_or}
-use Rattle.slot.specs.Slot.{fresh_permission, fresh_channel, with_permissions, with_channels, permits, free_permission, permission_entry, permit, numbered, leads_to, free_channel, peer_taken, channel_entry, bind}
+use Rattle.slot.specs.Slot.{fresh_permission, fresh_channel, with_permissions, with_channels, permits, free_permission, permission_entry, permit, numbered, leads_to, free_channel, peer_taken, channel_entry, bind, Placed}
 use Rattle.permission_rules.specs.Permissions.{permit_peer, permit_all, bound}
 use Rattle.history.specs.Events.{addresses_of}
 use Rattle.history.specs.Statement.{permission_at, channel_at, LiveChannel}
@@ -45,11 +44,11 @@ pub record Spot (t : ℕ) (a : Address) (ps : List Permission) (j : ℕ) : Type 
   pub why : ((t < (permission_at ps j).expiry) × ((permission_at ps j).address ≡ a))
       ⊎ (((permission_at ps j).expiry ≤ t) × ((i : ℕ) → t < (permission_at ps i).expiry → (permission_at ps i).address ≢ a))
 
-spot : (t : ℕ) (a : Address) (ps : List Permission) (j : ℕ) → permission_entry t a ps ≡ At j → Spot t a ps j
+spot : (t : ℕ) (a : Address) (ps : List Permission) (j : ℕ) → permission_entry t a ps ≡ Some j → Spot t a ps j
 unfolding permission_entry
 spot t a ps j e = go (entry_is (permits t a) (free_permission t) ps j e)
   where
-    go : (find (permits t a) ps ≡ At j) ⊎ ((find (permits t a) ps ≡ Nothing) × (find (free_permission t) ps ≡ At j)) → Spot t a ps j
+    go : (find (permits t a) ps ≡ Some j) ⊎ ((find (permits t a) ps ≡ None) × (find (free_permission t) ps ≡ Some j)) → Spot t a ps j
     go (inl q) = let r = find_some (permits t a) ps fresh_permission j q in record { room = r.1; why = inl (permission_is t a _ r.0) }
     go (inr q) =
         let r = find_some (free_permission t) ps fresh_permission j q.1 in
@@ -164,15 +163,15 @@ permit_then : (t : ℕ) (a : Address) (xs : List Address) (was slot : Slot) → 
 unfolding permit put_at
 permit_then t a xs was slot ok x = go (permission_entry t a was.permissions) refl ok x
   where
-    go : (f : Found) → permission_entry t a was.permissions ≡ f → has f ≡ true
+    go : (f : Option ℕ) → permission_entry t a was.permissions ≡ f → has f ≡ true
         → Extends t xs (with_permissions was (put_at f (new_permission t a) was.permissions)) slot
         → Extends t (a ∷ xs) was slot
-    go (At j) e ok x = record {
+    go (Some j) e ok x = record {
       allocation_is = x.allocation_is;
       channels_are = x.channels_are;
       grants = granting_cons t a xs was.permissions slot.permissions j (spot t a was.permissions j e) x.grants;
     }
-    go Nothing e ok x = absurd (false≢true ok)
+    go None e ok x = absurd (false≢true ok)
 
 extends_none : (t : ℕ) (slot : Slot) → Extends t [] slot slot
 extends_none t slot = record { allocation_is = refl; channels_are = refl; grants = granting_nil t slot.permissions }
@@ -181,31 +180,31 @@ pub permit_extends : (t : ℕ) (a : Address) (was : Slot) → (permit t a was).o
 permit_extends t a was ok = permit_then t a [] was (permit t a was).slot ok (extends_none t (permit t a was).slot)
 
 -- every address of a CreatePermission
-pub all_extends : (t : ℕ) (l : List AddressValue) (was done : Slot) → (permit_all t l was done).ok ≡ true
+pub all_extends : (t : ℕ) (l : List (Option TransportAddress)) (was done : Slot) → (permit_all t l was done).ok ≡ true
     → Extends t (addresses_of l) done (permit_all t l was done).slot
 unfolding permit_all permit_peer
 all_extends t [] was done ok = extends_none t done
-all_extends t (v ∷ l) was done ok = go (permit t v.peer.address done).ok refl ok (all_extends t l was)
+all_extends t (v ∷ l) was done ok = go (permit t (peer_or_nobody v).address done).ok refl ok (all_extends t l was)
   where
     one : Placed
-    one = permit t v.peer.address done
+    one = permit t (peer_or_nobody v).address done
 
     go : (b : Bool) → one.ok ≡ b → (pick b (permit_all t l was one.slot) (record { ok = false; slot = was })).ok ≡ true
         → ((d : Slot) → (permit_all t l was d).ok ≡ true → Extends t (addresses_of l) d (permit_all t l was d).slot)
         → Extends t (addresses_of (v ∷ l)) done (pick b (permit_all t l was one.slot) (record { ok = false; slot = was })).slot
-    go true e ok ih = permit_then t v.peer.address (addresses_of l) done _ e (ih one.slot ok)
+    go true e ok ih = permit_then t (peer_or_nobody v).address (addresses_of l) done _ e (ih one.slot ok)
     go false e ok ih = absurd (false≢true ok)
 
 -- ---- What bind does to the channels
-module _ (t n : ℕ) (p : TransportAddress) (cs : List Channel) (m : ℕ) (taken : peer_taken t n p cs ≡ false) (e : channel_entry t n cs ≡ At m) where
+module _ (t n : ℕ) (p : TransportAddress) (cs : List Channel) (m : ℕ) (taken : peer_taken t n p cs ≡ false) (e : channel_entry t n cs ≡ Some m) where
   -- a live channel of the peer has the number
   same_number : NeatChannels t cs → (i : ℕ) → LiveChannel t (channel_at cs i) → (channel_at cs i).peer ≡ p → (channel_at cs i).number ≡ n
   unfolding peer_taken both at_or
   same_number ne i x q = go (find (leads_to t p) cs) refl taken
     where
-      go : (f : Found) → find (leads_to t p) cs ≡ f → both (has f) (not (eqb (at_or fresh_channel f cs).number n)) ≡ false → (channel_at cs i).number ≡ n
-      go Nothing r b = absurd (none_leads t p cs r i x q)
-      go (At j) r b =
+      go : (f : Option ℕ) → find (leads_to t p) cs ≡ f → both (has f) (not (eqb (at_or fresh_channel f cs).number n)) ≡ false → (channel_at cs i).number ≡ n
+      go None r b = absurd (none_leads t p cs r i x q)
+      go (Some j) r b =
           let l = leads_is t p _ (find_some (leads_to t p) cs fresh_channel j r).0 in
           let k : i ≡ j = ne.one_peer i j x l.0 (q ∙ sym l.1) in
           rw k (eqb-true _ _ (not-false _ b))
@@ -214,7 +213,7 @@ module _ (t n : ℕ) (p : TransportAddress) (cs : List Channel) (m : ℕ) (taken
   unfolding channel_entry
   alone_number ne i d x q = go (entry_is (numbered t n) (free_channel t) cs m e)
     where
-      go : (find (numbered t n) cs ≡ At m) ⊎ ((find (numbered t n) cs ≡ Nothing) × (find (free_channel t) cs ≡ At m)) → ⊥
+      go : (find (numbered t n) cs ≡ Some m) ⊎ ((find (numbered t n) cs ≡ None) × (find (free_channel t) cs ≡ Some m)) → ⊥
       go (inl f) = let r = numbered_is t n _ (find_some (numbered t n) cs fresh_channel m f).0 in d (ne.one_num i m x r.0 (q ∙ sym r.1))
       go (inr f) = none-numbered t n cs f.0 i x q
 
@@ -222,7 +221,7 @@ module _ (t n : ℕ) (p : TransportAddress) (cs : List Channel) (m : ℕ) (taken
   unfolding channel_entry
   channel_room = go (entry_is (numbered t n) (free_channel t) cs m e)
     where
-      go : (find (numbered t n) cs ≡ At m) ⊎ ((find (numbered t n) cs ≡ Nothing) × (find (free_channel t) cs ≡ At m)) → m < length cs
+      go : (find (numbered t n) cs ≡ Some m) ⊎ ((find (numbered t n) cs ≡ None) × (find (free_channel t) cs ≡ Some m)) → m < length cs
       go (inl f) = (find_some (numbered t n) cs fresh_channel m f).1
       go (inr f) = (find_some (free_channel t) cs fresh_channel m f.1).1
 
@@ -257,7 +256,7 @@ pub record Admits (t : ℕ) (xs : List Address) (was slot : Slot) : Type 0 where
   pub channels_neat : NeatChannels t was.channels → NeatChannels t slot.channels
   pub grants : Granting t xs was.permissions slot.permissions
 
-pub all_admitted : (t : ℕ) (l : List AddressValue) (was : Slot) → (permit_all t l was was).ok ≡ true → Admits t (addresses_of l) was (permit_all t l was was).slot
+pub all_admitted : (t : ℕ) (l : List (Option TransportAddress)) (was : Slot) → (permit_all t l was was).ok ≡ true → Admits t (addresses_of l) was (permit_all t l was was).slot
 all_admitted t l was ok =
     let x = all_extends t l was was ok in
     record { allocation_is = x.allocation_is; channels_neat = λ n. rw x.channels_are n; grants = x.grants }
@@ -269,16 +268,16 @@ bound_admitted t n p was taken ok ok' =
     let x = permit_extends t p.address was ok in
     go (permit t p.address was).slot x (channel_entry t n (permit t p.address was).slot.channels) refl ok'
   where
-    go : (half : Slot) → Extends t (p.address ∷ []) was half → (f : Found) → channel_entry t n half.channels ≡ f → has f ≡ true
+    go : (half : Slot) → Extends t (p.address ∷ []) was half → (f : Option ℕ) → channel_entry t n half.channels ≡ f → has f ≡ true
         → Admits t (p.address ∷ []) was (with_channels half (put_at f (new_channel t n p) half.channels))
-    go half x Nothing e ok = absurd (false≢true ok)
-    go half x (At m) e ok = record {
+    go half x None e ok = absurd (false≢true ok)
+    go half x (Some m) e ok = record {
       allocation_is = x.allocation_is;
       channels_neat = neat;
       grants = x.grants;
     }
       where
-        neat : NeatChannels t was.channels → NeatChannels t (put_at (At m) (new_channel t n p) half.channels)
+        neat : NeatChannels t was.channels → NeatChannels t (put_at (Some m) (new_channel t n p) half.channels)
         neat ne = rw x.channels_are (bind_neat t n p was.channels m taken (rw x.channels_are at e) ne)
 
 -- ---- A fresh slot

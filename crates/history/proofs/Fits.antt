@@ -7,19 +7,18 @@ use native.Mathlib.Omega.{arith}
 use lib.Dec.{eqb, lit<}
 use lib.ListN.{length, length-set}
 use borrow.Author.Tests.{leb-true}
+use Rattle.std.proofs.Common.{Option}
 use Rattle.wire.proofs.Laws.{all_same}
 use Rattle.choice.specs.Choice.{pick}
 use Rattle.choice.proofs.Laws.{both_parts}
 use Rattle.address.specs.declared.Address.{Address}
 use Rattle.address.specs.declared.TransportAddress.{TransportAddress}
 use Rattle.stun.specs.declared.message.Attribute.{Attribute}
-use Rattle.stun.specs.declared.values.AddressValue.{AddressValue}
 use Rattle.stun.specs.AttributeNumbers as attribute
 use Rattle.stun.specs.Message.{attributes_from}
-use Rattle.stun.specs.Values.{transaction_id_of, address_at, peers_of, peers_from, peers, head_of, first_peer}
+use Rattle.stun.specs.Values.{transaction_id_of, peer_or_nobody, address_at, peers_of, peers_from, peers, head_of, first_peer}
 use Rattle.slot.specs.declared.Slot.{Slot}
-use Rattle.slot.specs.declared.Found.{Found}
-use Rattle.slot.specs.declared.Found.TheVariants.{At, Nothing}
+use Rattle.std.specs.Prelude.{Option, Some, None}
 use Rattle.slot.specs.Search.{put_at, at_or}
 use Rattle.slot.specs.Slot.{fresh_permission, fresh_channel, fresh_slot, is_channel_number, permission_entry, permit, channel_entry, bind}
 use Rattle.table.specs.Table.{slot_at}
@@ -51,10 +50,10 @@ use Rattle.history.proofs.FreePort.{port-fits}
 use Rattle.history.proofs.Replies.{id_fits}
 
 -- ---- An entry written into a list
-length_place : {A : Type 0} (found : Found) (x : A) (l : List A) → length (put_at found x l) ≡ length l
+length_place : {A : Type 0} (found : Option ℕ) (x : A) (l : List A) → length (put_at found x l) ≡ length l
 unfolding put_at
-length_place (At k) x l = length-set l k x
-length_place Nothing x l = refl
+length_place (Some k) x l = length-set l k x
+length_place None x l = refl
 
 -- ---- Fresh
 fresh_fits : SlotFits fresh_slot
@@ -68,14 +67,14 @@ fresh_fits = record {
   channels = λ i. rw (all_same fresh_channel 8 i) (record { number = lit< tt; peer = (lit< tt, lit< tt); expiry = lit< tt });
 }
 
-pub found_fits : (found : Found) (l : List Slot) → ((i : ℕ) → SlotFits (slot_at l i)) → SlotFits (at_or fresh_slot found l)
+pub found_fits : (found : Option ℕ) (l : List Slot) → ((i : ℕ) → SlotFits (slot_at l i)) → SlotFits (at_or fresh_slot found l)
 found_fits = found_keeps SlotFits fresh_fits
 
 -- ---- The addresses that a datagram carries
 module _ (s : List ℕ) (bytes : Bytes s) where
-  abbrev AllFit : List AddressValue → Type 0
+  abbrev AllFit : List (Option TransportAddress) → Type 0
   AllFit [] = Unit
-  AllFit (v ∷ l) = TransportFits v.peer × AllFit l
+  AllFit (v ∷ l) = TransportFits (peer_or_nobody v) × AllFit l
 
   values_fit : (l : List Attribute) → AllFit (peers_of s l)
   unfolding peers_of
@@ -90,11 +89,11 @@ module _ (s : List ℕ) (bytes : Bytes s) where
   unfolding peers_from
   peers_fit = values_fit (attributes_from s 20)
 
-  first_fits : TransportFits (first_peer s).peer
+  first_fits : TransportFits (peer_or_nobody (first_peer s))
   unfolding first_peer
   first_fits = go (peers s) peers_fit
     where
-      go : (l : List AddressValue) → AllFit l → TransportFits (head_of l).peer
+      go : (l : List (Option TransportAddress)) → AllFit l → TransportFits (peer_or_nobody (head_of l))
       go [] f = (lit< tt, lit< tt)
       go (v ∷ l) f = f.0
 
@@ -124,9 +123,9 @@ module _ (t : ℕ) (soon : t ≤ 2 ^ 40) where
         place_keeps ChannelFits fresh_channel _ (record { number = n; peer = h; expiry = omega arith }) (channel_entry t number slot.channels) slot.channels f.channels;
   }
 
-  peers_permitted : (s : List ℕ) (bytes : Bytes s) (l : List AddressValue) → AllFit s bytes l → MayPermit SlotFits t l
+  peers_permitted : (s : List ℕ) (bytes : Bytes s) (l : List (Option TransportAddress)) → AllFit s bytes l → MayPermit SlotFits t l
   peers_permitted s bytes [] f = tt
-  peers_permitted s bytes (v ∷ l) f = (λ slot. permit_fits v.peer.address slot f.0.0, peers_permitted s bytes l f.1)
+  peers_permitted s bytes (v ∷ l) f = (λ slot. permit_fits (peer_or_nobody v).address slot f.0.0, peers_permitted s bytes l f.1)
 
   renewed_fits : (expiry : ℕ) → expiry < 2 ^ 64 → (slot : Slot) → SlotFits slot → SlotFits (renewed expiry slot)
   unfolding renewed
@@ -197,10 +196,10 @@ met_fits st a f = record { clock = f.clock; sixty_four = f.sixty_four; slots = f
 abbrev Sized : State → Type 0
 Sized st = (clock_of st < 2 ^ 64) × (length st.slots ≡ 64)
 
-done_sized : (was st : State) (found : Found) (change : Change) → Sized st → Sized (state_after was (done st found change))
-done_sized was st (At k) (keep out) f = f
-done_sized was st (At k) (write slot out) f = (f.0, length-set st.slots k slot ∙ f.1)
-done_sized was st Nothing change f = f
+done_sized : (was st : State) (found : Option ℕ) (change : Change) → Sized st → Sized (state_after was (done st found change))
+done_sized was st (Some k) (keep out) f = f
+done_sized was st (Some k) (write slot out) f = (f.0, length-set st.slots k slot ∙ f.1)
+done_sized was st None change f = f
 
 next_sized : (st : State) (a : Arrival) → Sized st → Sized (next st a)
 unfolding accepted

@@ -10,8 +10,7 @@ use borrow.Author.Tests.{eqb-true}
 use Rattle.choice.specs.Choice.{pick}
 use Rattle.choice.proofs.Laws.{both_parts}
 use Rattle.slot.specs.declared.Slot.{Slot}
-use Rattle.slot.specs.declared.Found.{Found}
-use Rattle.slot.specs.declared.Found.TheVariants.{At, Nothing}
+use Rattle.std.specs.Prelude.{Option, Some, None}
 use Rattle.slot.specs.Search.{further, find, has}
 use Rattle.slot.specs.Slot.{holds_port}
 use Rattle.table.specs.Table.{in_slot}
@@ -25,10 +24,10 @@ abbrev held_by : ℕ → ℕ → Slot → Bool
 held_by t k slot = in_slot (holds_port t (49152 + k)) slot
 
 -- one slot more
-has_more : (b : Bool) (f : Found) → has (pick b (At zero) (further f)) ≡ pick b true (has f)
+has_more : (b : Bool) (f : Option ℕ) → has (pick b (Some zero) (further f)) ≡ pick b true (has f)
 has_more true f = refl
-has_more false (At i) = refl
-has_more false Nothing = refl
+has_more false (Some i) = refl
+has_more false None = refl
 
 held_more : (t k : ℕ) (x : Slot) (l : List Slot) → has (find (held_by t k) (x ∷ l)) ≡ pick (held_by t k x) true (has (find (held_by t k) l))
 unfolding find
@@ -77,7 +76,7 @@ few t [] k n = let e = none_held t k n in omega arith
 few t (x ∷ l) k n = let r = one_of t x l k n in let q = few t l k n in omega arith
 
 -- the port that a new allocation gets is one that no live slot holds
-pub port-free : (t start : ℕ) (l : List Slot) → length l ≡ 64 → find (in_slot (holds_port t (port_for (ports_held t l 0 128) start))) l ≡ Nothing
+pub port-free : (t start : ℕ) (l : List Slot) → length l ≡ 64 → find (in_slot (holds_port t (port_for (ports_held t l 0 128) start))) l ≡ None
 unfolding port_for
 port-free t start l full =
     let held = ports_held t l 0 128 in

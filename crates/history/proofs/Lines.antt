@@ -1,5 +1,5 @@
 -- Lines that the call program runs one after another are a list of calls; so demand 3 holds of them.
-use Prim.Native.Nat.{ℕ, zero, suc, ◌^◌, ◌<◌, ◌≤◌}
+use Prim.Native.Nat.{ℕ, zero, suc, ◌^◌, ◌<◌}
 use mathlib.Core.Path.{◌≡◌, refl, sym, ◌∙◌, ap, subst}
 use mathlib.Core.Bool.{Bool, true, false, false≢true}
 use mathlib.Core.List.{List, [], ◌∷◌, ◌++◌}
@@ -11,7 +11,7 @@ use borrow.Author.Tests.{ltb-true, le-ltb}
 use Rattle.choice.specs.Choice.{pick, both, lookup}
 use Rattle.choice.proofs.Laws.{both_parts}
 use Rattle.address.specs.declared.Address.TheVariants.{V4, V6}
-use Rattle.text.specs.declared.Parsed.{Parsed}
+use Rattle.std.specs.Prelude.{Option, is_some, unwrap_or}
 use Rattle.text.specs.Text.{digit_value, is_hex, hex_bytes_of}
 use Rattle.interface.specs.declared.incoming.Call.{Call}
 use Rattle.denied.specs.Prefixes.{covered}
@@ -19,11 +19,10 @@ use Rattle.denied.specs.Denied.{prefixes_of, read_denied}
 use Rattle.state.specs.State.{State, empty, meeting}
 use Rattle.state.specs.Outcomes.{Act, state_after}
 use Rattle.state.specs.Step.{act}
-use Rattle.lines.specs.Fields.{field_end, is_more, rest, is_number, value_of, number_up_to, is_address, word_at, address_of}
-use Rattle.lines.specs.Inner.{NumberAt}
+use Rattle.lines.specs.Fields.{field_end, is_more, rest, number_up_to, is_address, word_at, address_of}
 use Rattle.lines.specs.Lines.{Line, bad, asks, call_from_client, call_from_peer, with_datagram, client_line, peer_line, form_of, line_of}
 use Rattle.script.specs.Run.{shown, line_act, answer_to, state_to}
-use Rattle.lines.proofs.Read.{number_at, word_fits}
+use Rattle.lines.proofs.Read.{number_most, word_fits}
 use Rattle.client_reader.specs.Fields.{Bytes, AddressFits}
 use Rattle.history.specs.Events.{CallFits, Arrival, acts, outcome, replied, Event, Lived}
 use Rattle.history.specs.Statement.{Demand3From}
@@ -36,11 +35,6 @@ use Rattle.history.proofs.Denied.{tree_stays, kept_out}
 use Rattle.history.proofs.Whole.{accounts_empty}
 
 -- ---- What a line reads is of its type
-number_most : (most : ℕ) (l : List ℕ) → value_of (number_up_to most l) ≤ most
-number_most most l =
-    let n : NumberAt most l _ = number_at {l = l} {most = most} refl refl refl refl refl in
-    subst (λ (v : ℕ). v ≤ most) n.value_is n.value_fits
-
 address_read : (l : List ℕ) → AddressFits (address_of l)
 unfolding address_of word_at
 address_read l = go (eqb (field_end l) 32) (eqb (field_end l) 8)
@@ -84,23 +78,23 @@ client_fits : (l : List ℕ) → LineFits (client_line l)
 unfolding client_line call_from_client
 client_fits l = pick_fits good (with_datagram call (rest 5 l)) bad (datagram_fits call (rest 5 l) fits) bad_fits
   where
-    time : Parsed
+    time : Option ℕ
     time = number_up_to 18446744073709551615 l
 
-    user : Parsed
+    user : Option ℕ
     user = number_up_to 4294967295 (rest 1 l)
 
-    start : Parsed
+    start : Option ℕ
     start = number_up_to 4294967295 (rest 2 l)
 
-    port : Parsed
+    port : Option ℕ
     port = number_up_to 65535 (rest 4 l)
 
     good : Bool
-    good = both (is_number time) (both (is_number user) (both (is_number start) (both (is_address (rest 3 l)) (both (is_number port) (is_more (rest 4 l))))))
+    good = both (is_some time) (both (is_some user) (both (is_some start) (both (is_address (rest 3 l)) (both (is_some port) (is_more (rest 4 l))))))
 
     call : Call
-    call = call_from_client (value_of time) (value_of user) (value_of start) (address_of (rest 3 l)) (value_of port)
+    call = call_from_client (unwrap_or time 0) (unwrap_or user 0) (unwrap_or start 0) (address_of (rest 3 l)) (unwrap_or port 0)
 
     fits : CallFits call
     fits =
@@ -114,20 +108,20 @@ peer_fits : (l : List ℕ) → LineFits (peer_line l)
 unfolding peer_line call_from_peer
 peer_fits l = pick_fits good (with_datagram call (rest 4 l)) bad (datagram_fits call (rest 4 l) fits) bad_fits
   where
-    time : Parsed
+    time : Option ℕ
     time = number_up_to 18446744073709551615 l
 
-    port : Parsed
+    port : Option ℕ
     port = number_up_to 65535 (rest 2 l)
 
-    relay_port : Parsed
+    relay_port : Option ℕ
     relay_port = number_up_to 65535 (rest 3 l)
 
     good : Bool
-    good = both (is_number time) (both (is_address (rest 1 l)) (both (is_number port) (both (is_number relay_port) (is_more (rest 3 l)))))
+    good = both (is_some time) (both (is_address (rest 1 l)) (both (is_some port) (both (is_some relay_port) (is_more (rest 3 l)))))
 
     call : Call
-    call = call_from_peer (value_of time) (address_of (rest 1 l)) (value_of port) (value_of relay_port)
+    call = call_from_peer (unwrap_or time 0) (address_of (rest 1 l)) (unwrap_or port 0) (unwrap_or relay_port 0)
 
     fits : CallFits call
     fits =

@@ -10,16 +10,16 @@ use lib.Dec.{eqb}
 use lib.ListN.{length, set}
 use lib.Seq.{get_or-set_same, get_or-set_other}
 use borrow.Author.Tests.{eqb-true, eqb-false}
+use Rattle.std.proofs.Common.{Option}
 use Rattle.choice.specs.Choice.{pick}
 use Rattle.address.specs.declared.Address.{Address}
 use Rattle.address.specs.declared.FiveTuple.{FiveTuple}
 use Rattle.stun.specs.declared.kinds.Method.{Method}
 use Rattle.stun.specs.declared.kinds.Method.TheVariants.{Allocate, Refresh, CreatePermission, ChannelBind}
-use Rattle.stun.specs.declared.values.AddressValue.{AddressValue}
-use Rattle.stun.specs.Values.{transaction_id_of, peers, first_peer}
+use Rattle.address.specs.declared.TransportAddress.{TransportAddress}
+use Rattle.stun.specs.Values.{transaction_id_of, peer_or_nobody, peers, first_peer}
 use Rattle.slot.specs.declared.Slot.{Slot}
-use Rattle.slot.specs.declared.Found.{Found}
-use Rattle.slot.specs.declared.Found.TheVariants.{At, Nothing}
+use Rattle.std.specs.Prelude.{Option, Some, None}
 use Rattle.slot.specs.Search.{find, has, at_or}
 use Rattle.slot.specs.Slot.{fresh_slot, holds}
 use Rattle.table.specs.Table.{slot_at, in_slot, lapsed}
@@ -81,9 +81,9 @@ respond_keeps fiveTuple method s code slot out = go (eqb code 0)
     go false = keeps _ (error_unaccepted fiveTuple method s code)
 
 -- a request that was accepted names an address
-some_address : (l : List AddressValue) → none l ≡ false → (a : Address) × Memᴰ a (addresses_of l)
+some_address : (l : List (Option TransportAddress)) → none l ≡ false → (a : Address) × Memᴰ a (addresses_of l)
 some_address [] e = absurd (true≢false e)
-some_address (v ∷ l) e = (v.peer.address, Memᴰ.head refl)
+some_address (v ∷ l) e = ((peer_or_nobody v).address, Memᴰ.head refl)
 
 module _ (call : FromClient) (st : State) (s reply : List ℕ) (full : length st.slots ≡ 64) (fits : CallFits (Client call)) (bytes : Bytes s)
     (past : List Counted) (I : Accounts call.time (slot_at st.slots) past) where
@@ -106,12 +106,12 @@ module _ (call : FromClient) (st : State) (s reply : List ℕ) (full : length st
   made_stay out u = rw (u.counts call s reply) (quiet call.time (slot_at l))
 
   -- where no slot was found nothing is written
-  made_done : (found : Found) (change : Change) → ((out : Out) → change ≡ keep out → Made (accept st out)) → ((slot : Slot) (out : Out) → change ≡ write slot out → has found ≡ true)
-      → ((k : ℕ) → found ≡ At k → (slot : Slot) (out : Out) → change ≡ write slot out → Made (put k slot out)) → Made (done st found change)
-  made_done (At k) (keep out) q h f = q out refl
-  made_done (At k) (write slot out) q h f = f k refl slot out refl
-  made_done Nothing (keep out) q h f = q out refl
-  made_done Nothing (write slot out) q h f = absurd (false≢true (h slot out refl))
+  made_done : (found : Option ℕ) (change : Change) → ((out : Out) → change ≡ keep out → Made (accept st out)) → ((slot : Slot) (out : Out) → change ≡ write slot out → has found ≡ true)
+      → ((k : ℕ) → found ≡ Some k → (slot : Slot) (out : Out) → change ≡ write slot out → Made (put k slot out)) → Made (done st found change)
+  made_done (Some k) (keep out) q h f = q out refl
+  made_done (Some k) (write slot out) q h f = f k refl slot out refl
+  made_done None (keep out) q h f = q out refl
+  made_done None (write slot out) q h f = absurd (false≢true (h slot out refl))
 
   put_frame : (k : ℕ) (slot : Slot) → Frame call.time k (slot_at l) (slot_at (set l k slot))
   put_frame k slot = record { before = λ i ne x. get_or-set_other l k i slot fresh_slot ne; after = λ i ne x. get_or-set_other l k i slot fresh_slot ne }
@@ -120,7 +120,7 @@ module _ (call : FromClient) (st : State) (s reply : List ℕ) (full : length st
   put_same k slot h = get_or-set_same l k slot fresh_slot h
 
   -- ---- Allocate
-  module _ (asked : asked_by s ≡ Asked.Allocate) (k : ℕ) (found : find (in_slot (lapsed call.time)) l ≡ At k) (slot : Slot) (out : Out)
+  module _ (asked : asked_by s ≡ Asked.Allocate) (k : ℕ) (found : find (in_slot (lapsed call.time)) l ≡ Some k) (slot : Slot) (out : Out)
       (e : allocate (as_rules call) s (room_for call l) own ≡ write slot out) where
     takes : Made (put k slot out)
     unfolding allocated fresh_slot
@@ -236,19 +236,19 @@ module _ (call : FromClient) (st : State) (s reply : List ℕ) (full : length st
     bound_made denied asked e =
         let r = binds (as_rules call) s slot out own (slot_at l k) e in
         rw (r.out_is, channel_counts call s reply bytes (asks_for ChannelBind s asked))
-        (refl, admitted _ _ ((first_peer s).peer.address, Memᴰ.head refl) r.slot_is (bound_admitted call.time (number_given (channel_number s)) (first_peer s).peer (slot_at l k) r.peer_free r.permitted r.bound_ok))
+        (refl, admitted _ _ ((peer_or_nobody (first_peer s)).address, Memᴰ.head refl) r.slot_is (bound_admitted call.time (number_given (channel_number s)) (peer_or_nobody (first_peer s)) (slot_at l k) r.peer_free r.permitted r.bound_ok))
 
 -- ---- What is given out without a change of the slot counts as nothing
 pub send_unaccepted : (call : ClientCall) (s : List ℕ) (own : Bool) (slot : Slot) → Unaccepted (send call s own slot)
-send_unaccepted call s own slot = send_is Unaccepted dropped_unaccepted call s own slot (λ start len e live. to_peer_unaccepted _ _ start len)
+send_unaccepted call s own slot = send_is Unaccepted dropped_unaccepted call s own slot (λ value e live. to_peer_unaccepted _ _ value.start value.len)
 
 pub channelled_unaccepted : (call : ClientCall) (s : List ℕ) (own : Bool) (slot : Slot) → Unaccepted (send_channel_data call s own slot)
-channelled_unaccepted call s own slot = channelled_is Unaccepted dropped_unaccepted call s own slot (λ number start len e there. to_peer_unaccepted _ _ start len)
+channelled_unaccepted call s own slot = channelled_is Unaccepted dropped_unaccepted call s own slot (λ message e there. to_peer_unaccepted _ _ message.start message.len)
 
 -- ---- A client's datagram
 module _ (call : FromClient) (st : State) (s reply : List ℕ) (full : length st.slots ≡ 64) (fits : CallFits (Client call)) (bytes : Bytes s)
     (past : List Counted) (I : Accounts call.time (slot_at st.slots) past) where
-  found : Found
+  found : Option ℕ
   found = own_place call st.slots
 
   abbrev Makes : Act → Type 0
@@ -265,7 +265,7 @@ module _ (call : FromClient) (st : State) (s reply : List ℕ) (full : length st
       made_done call st s reply full fits bytes past I found (rule (has found) (at_or fresh_slot found st.slots))
       (λ out e. made_stay call st s reply full fits bytes past I out (q.quietly out e)) h at
     where
-      at : (k : ℕ) → found ≡ At k → (slot : Slot) (out : Out) → rule (has found) (at_or fresh_slot found st.slots) ≡ write slot out
+      at : (k : ℕ) → found ≡ Some k → (slot : Slot) (out : Out) → rule (has found) (at_or fresh_slot found st.slots) ≡ write slot out
           → Makes (accept (with_slots (set st.slots k slot) st) out)
       at k e slot out w =
           let g = find_some (in_slot (holds call.time call.five_tuple)) st.slots fresh_slot k e in

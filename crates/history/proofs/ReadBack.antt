@@ -9,6 +9,7 @@ use lib.Dec.{eqb, lit<}
 use lib.ListN.{length, take, drop, set, replicate}
 use lib.Seq.{take_at, get_or-set_same}
 use borrow.Author.Tests.{eqb-true, eqb-false}
+use Rattle.std.specs.Prelude.{Option, Some, None}
 use Rattle.choice.specs.Choice.{pick}
 use Rattle.address.specs.declared.Address.{Address}
 use Rattle.address.specs.declared.Address.TheVariants.{V4, V6}
@@ -21,8 +22,7 @@ use Rattle.stun.specs.Message.{unknown_types}
 use Rattle.stun.specs.Values.{transaction_id_of}
 use Rattle.messages.specs.Messages.{allocate_success, refresh_success, bare_success, error_response, unknown_response, data_indication, channel_data}
 use Rattle.slot.specs.declared.Slot.{Slot}
-use Rattle.slot.specs.declared.Found.{Found}
-use Rattle.slot.specs.declared.Found.TheVariants.{At, Nothing}
+use Rattle.std.specs.Prelude.{Option, Some, None}
 use Rattle.slot.specs.Search.{find, has, or_else, at_or}
 use Rattle.slot.specs.Slot.{fresh_slot, fresh_channel, leads_to}
 use Rattle.table.specs.Table.{slot_at}
@@ -31,7 +31,6 @@ use Rattle.table.proofs.Laws.{found_within}
 use Rattle.rules.specs.declared.answer.Outcome.TheVariants.{ToClient}
 use Rattle.rules.specs.Change as rules
 use Rattle.rules.specs.Change.{Out, dropped, to_client, to_peer, Change, keep, write, out_of, error_message, respond}
-use Rattle.rules.specs.Inner.{slot_after}
 use Rattle.rules.specs.Values.{lifetime, any_unknown, ipv4_of}
 use Rattle.allocation_rules.specs.Allocations.{repeats, allocated, allocate_reply, seconds_left, told_again, newly_made, allocate, renewed, refreshed, refresh, granted, granted_refresh}
 use Rattle.permission_rules.specs.Denials.{any_denied, first_denied}
@@ -57,8 +56,8 @@ use Rattle.relay.proofs.Laws.{not_refused}
 use Rattle.decisions.proofs.Accepted.{allocates}
 use Rattle.decisions.proofs.Laws.{decided-writes}
 use Rattle.client_reader.specs.declared.Message.TheVariants as Is
-use Rattle.client_reader.specs.declared.ReadMessage.{ReadMessage}
-use Rattle.client_reader.specs.Fields.{Bytes, IdFits, AddressFits, IsBare, IsMessage, InRange, written, data_of, plain, nothing, Exact}
+use Rattle.client_reader.specs.declared.Message.{Message}
+use Rattle.client_reader.specs.Fields.{Bytes, IdFits, AddressFits, IsBare, InRange, written, data_of, Exact}
 use Rattle.client_reader.proofs.Laws.{written_read, message_exact, one_reading, indication_within, indication_data, channel_within, channel_data_lem}
 use Rattle.history.specs.Events.{CallFits, TransportFits, Arrival, met, Event, Happened, Lived}
 use Rattle.history.specs.Fits.{SlotFits, StateFits}
@@ -71,54 +70,54 @@ use Rattle.history.proofs.Codes.{Coded, allocate_coded, refresh_coded, permissio
 
 -- ---- Each message
 
-read_as_lem : (m : ReadMessage) (payload message : List ℕ) → IsMessage m → InRange m message → written m message ≡ message → data_of m.message message ≡ payload
-    → ReadAs m payload message
-read_as_lem m payload message is r w d = record { is_message = is; exact = message_exact message m is r w; read = written_read message m is r w; shown = d }
+read_as_lem : (m : Message) (payload message : List ℕ) → InRange m message → written m message ≡ message → data_of m message ≡ payload
+    → ReadAs (Some m) payload message
+read_as_lem m payload message r w d = record { is_message = refl; exact = message_exact message m r w; read = written_read message m r w; shown = d }
 
 module _ (id : TransactionId) (h : IdFits id) where
   allocate_back : (relay port seconds : ℕ) (client : TransportAddress) {port' seconds' : ℕ} → relay < 2 ^ 32 → port < 2 ^ 16 → seconds < 2 ^ 32 → TransportFits client
       → port' ≡ port → seconds' ≡ seconds
-      → ReadAs (plain (Is.AllocateSuccess id relay port' seconds' client)) [] (allocate_success id relay port seconds client)
+      → ReadAs (Some (Is.AllocateSuccess id relay port' seconds' client)) [] (allocate_success id relay port seconds client)
   allocate_back relay port seconds client hr hp hs hc p q =
-      rw (p, q) (read_as_lem _ _ _ (λ e. let z : ◌≡◌ {A = ℕ} 0 1 = cc in omega arith) (h, hr, hp, hs, hc.0, hc.1, refl) refl refl)
+      rw (p, q) (read_as_lem _ _ _ (h, hr, hp, hs, hc.0, hc.1) refl refl)
 
   refresh_back : (seconds : ℕ) {seconds' : ℕ} → seconds < 2 ^ 32 → seconds' ≡ seconds
-      → ReadAs (plain (Is.RefreshSuccess id seconds')) [] (refresh_success id seconds)
-  refresh_back seconds hs q = rw q (read_as_lem _ _ _ (λ e. let z : ◌≡◌ {A = ℕ} 0 1 = cc in omega arith) (h, hs, refl) refl refl)
+      → ReadAs (Some (Is.RefreshSuccess id seconds')) [] (refresh_success id seconds)
+  refresh_back seconds hs q = rw q (read_as_lem _ _ _ (h, hs) refl refl)
 
-  bare_back : (method : Method) → IsBare method → ReadAs (plain (Is.BareSuccess method id)) [] (bare_success method id)
-  bare_back method b = read_as_lem _ _ _ (λ e. let z : ◌≡◌ {A = ℕ} 0 1 = cc in omega arith) (h, b, refl) refl refl
+  bare_back : (method : Method) → IsBare method → ReadAs (Some (Is.BareSuccess method id)) [] (bare_success method id)
+  bare_back method b = read_as_lem _ _ _ (h, b) refl refl
 
   error_back : (method : Method) (code : ℕ) → 300 ≤ code → code ≤ 699 → (code ≡ 420 → ⊥)
-      → ReadAs (plain (Is.Error method id code)) [] (error_response method id code)
-  error_back method code low high other = read_as_lem _ _ _ (λ e. let z : ◌≡◌ {A = ℕ} 0 1 = cc in omega arith) (h, low, high, other, refl) refl refl
+      → ReadAs (Some (Is.Error method id code)) [] (error_response method id code)
+  error_back method code low high other = read_as_lem _ _ _ (h, low, high, other) refl refl
 
   indication_back : (peer port : ℕ) (payload : List ℕ) → peer < 2 ^ 32 → port < 2 ^ 16 → length payload ≤ 1500
-      → ReadAs (plain (Is.DataIndication id peer port 36 (length payload))) payload (data_indication id peer port payload)
+      → ReadAs (Some (Is.DataIndication id peer port 36 (length payload))) payload (data_indication id peer port payload)
   indication_back peer port payload ha hp few =
       let shown = indication_data id peer port payload in
-      read_as_lem _ _ _ (λ e. let z : ◌≡◌ {A = ℕ} 0 1 = cc in omega arith)
-      (h, ha, hp, record { from = refl; few = few; within = indication_within id peer port payload }, refl)
+      read_as_lem _ _ _
+      (h, ha, hp, record { from = refl; few = few; within = indication_within id peer port payload })
       (ap (data_indication id peer port) shown) shown
 
 channel_back : (number : ℕ) (payload : List ℕ) → 0x4000 ≤ number → number ≤ 0x4fff → length payload ≤ 1500
-    → ReadAs (plain (Is.ChannelData number 4 (length payload))) payload (channel_data number payload)
+    → ReadAs (Some (Is.ChannelData number 4 (length payload))) payload (channel_data number payload)
 channel_back number payload low high few =
     let shown = channel_data_lem number payload in
-    read_as_lem _ _ _ (λ e. let z : ◌≡◌ {A = ℕ} 0 1 = cc in omega arith)
-    (low, high, record { from = refl; few = few; within = channel_within number payload }, refl)
+    read_as_lem _ _ _
+    (low, high, record { from = refl; few = few; within = channel_within number payload })
     (ap (channel_data number) shown) shown
 
 -- ---- What goes out, and the slots that a decision leaves
 
 -- what goes to a client is read as these fields
-abbrev Readable : ReadMessage → List ℕ → Out → Type 0
+abbrev Readable : Option Message → List ℕ → Out → Type 0
 Readable fields payload (dropped cause) = Unit
 Readable fields payload (to_client fiveTuple message) = ReadAs fields payload message
 Readable fields payload (to_peer port peer start len) = Unit
 
 -- a slot that is written stands at its place, and where none is, the slots are as they were
-record Left (before after : List Slot) (place : Found) (change : Change) : Type 0 where
+record Left (before after : List Slot) (place : Option ℕ) (change : Change) : Type 0 where
   wrote : (slot : Slot) (out : Out) → change ≡ write slot out → slot_in after place ≡ slot
   kept : (out : Out) → change ≡ keep out → after ≡ before
 
@@ -134,17 +133,17 @@ until_expiry time seconds was e = rw e (go (eqb seconds 0) refl)
     go false z = omega arith
 
 module _ (s : List ℕ) (bytes : Bytes s) where
-  unknown_back : (method : Method) → any_unknown s ≡ true → ReadAs (unknown_for method s) [] (unknown_response method (transaction_id_of s) (unknown_types s))
+  unknown_back : (method : Method) → any_unknown s ≡ true → ReadAs (Some (unknown_for method s)) [] (unknown_response method (transaction_id_of s) (unknown_types s))
   unknown_back method e =
-      read_as_lem _ _ _ (λ e. let z : ◌≡◌ {A = ℕ} 0 1 = cc in omega arith) (id_fits s bytes, types_in_range s e)
+      read_as_lem _ _ _ (id_fits s bytes, types_in_range s e)
       (ap (unknown_response method (transaction_id_of s)) (take_at (unknown_types s) (replicate (16 - length (unknown_types s)) 0) (length (unknown_types s)) refl)) refl
 
-  error_message_back : (method : Method) (code : ℕ) → Coded s code → (code ≡ 0 → ⊥) → ReadAs (error_for method s code) [] (error_message method s code)
+  error_message_back : (method : Method) (code : ℕ) → Coded s code → (code ≡ 0 → ⊥) → ReadAs (Some (error_for method s code)) [] (error_message method s code)
   unfolding error_message
   error_message_back method code h ne = go (eqb code 420) refl h.range
     where
       go : (b : Bool) → eqb code 420 ≡ b → (code ≡ 0) ⊎ ((300 ≤ code) × (code ≤ 699))
-          → ReadAs (pick b (unknown_for method s) (plain (Is.Error method (transaction_id_of s) code))) []
+          → ReadAs (Some (pick b (unknown_for method s) (Is.Error method (transaction_id_of s) code))) []
           (pick b (unknown_response method (transaction_id_of s) (unknown_types s)) (error_response method (transaction_id_of s) code))
       go b e (inl z) = absurd (ne z)
       go true e (inr r) = unknown_back method (h.unknown (eqb-true code 420 e))
@@ -155,14 +154,14 @@ module _ (s : List ℕ) (bytes : Bytes s) where
   unfolding respond
   answered_by fiveTuple method code accepted e = rw e refl
 
-  respond_back : (fiveTuple : FiveTuple) (method : Method) (code : ℕ) (success : ReadMessage) (accepted : Change) → Coded s code
-      → (code ≡ 0 → Readable success [] (out_of accepted))
-      → Readable (pick (eqb code 0) success (error_for method s code)) [] (out_of (respond fiveTuple method s code accepted))
+  respond_back : (fiveTuple : FiveTuple) (method : Method) (code : ℕ) (success : Message) (accepted : Change) → Coded s code
+      → (code ≡ 0 → Readable (Some success) [] (out_of accepted))
+      → Readable (Some (pick (eqb code 0) success (error_for method s code))) [] (out_of (respond fiveTuple method s code accepted))
   unfolding respond
   respond_back fiveTuple method code success accepted h r = go (eqb code 0) refl
     where
       go : (b : Bool) → eqb code 0 ≡ b
-          → Readable (pick b success (error_for method s code)) [] (out_of (pick b accepted (keep (to_client fiveTuple (error_message method s code)))))
+          → Readable (Some (pick b success (error_for method s code))) [] (out_of (pick b accepted (keep (to_client fiveTuple (error_message method s code)))))
       go true e = r (eqb-true code 0 e)
       go false e = error_message_back method code h (eqb-false code 0 e)
 
@@ -180,25 +179,25 @@ module _ (s : List ℕ) (bytes : Bytes s) where
     kept_own : after ≡ before → own ≡ true → answering ≡ slot
     kept_own same there = go (own_place call before) there
       where
-        go : (place : Found) → has place ≡ true → slot_in after (or_else place (free_place call before)) ≡ slot_in before place
-        go (At i) e = ap (λ (l : List Slot). slot_in l (At i)) same
-        go Nothing e = absurd (false≢true e)
+        go : (place : Option ℕ) → has place ≡ true → slot_in after (or_else place (free_place call before)) ≡ slot_in before place
+        go (Some i) e = ap (λ (l : List Slot). slot_in l (Some i)) same
+        go None e = absurd (false≢true e)
 
     took_free : {made : Slot} → slot_in after (free_place call before) ≡ made → own ≡ false → answering ≡ made
     took_free {made} is none = go (own_place call before) none
       where
-        go : (place : Found) → has place ≡ false → slot_in after (or_else place (free_place call before)) ≡ made
-        go (At i) e = absurd (true≢false e)
-        go Nothing e = is
+        go : (place : Option ℕ) → has place ≡ false → slot_in after (or_else place (free_place call before)) ≡ made
+        go (Some i) e = absurd (true≢false e)
+        go None e = is
 
     -- what an accepted Allocate is read back as, from the slot that it is answered from
     allocated_back : (port seconds : ℕ) → port < 2 ^ 16 → seconds < 2 ^ 32
         → answering.allocation.port ≡ port → seconds_left call.time answering.allocation.expiry ≡ seconds
-        → Readable (plain (success_for call s before after Allocate)) [] (allocate_reply (as_rules call) s port seconds)
+        → Readable (Some (success_for call s before after Allocate)) [] (allocate_reply (as_rules call) s port seconds)
     allocated_back port seconds p n = allocate_back (transaction_id_of s) (id_fits s bytes) _ port seconds _ fits.0 p n fits.1
 
     allocate_readable : Left before after (free_place call before) (allocate (as_rules call) s (room_for call before) slot) → SlotFits slot
-        → Readable (response_for denied call s before after Allocate) [] (out_of (allocate (as_rules call) s (room_for call before) slot))
+        → Readable (Some (response_for denied call s before after Allocate)) [] (out_of (allocate (as_rules call) s (room_for call before) slot))
     unfolding allocate allocated seconds_left
     allocate_readable left was =
         respond_back _ _ _ _ _ (allocate_coded s (as_rules call) (repeats (as_rules call) s own slot) (room_for call before))
@@ -214,7 +213,7 @@ module _ (s : List ℕ) (bytes : Bytes s) where
         picked is = ap (λ (b : Bool). pick b again new) is
 
         go : (b : Bool) → repeats (as_rules call) s own slot ≡ b → allocate (as_rules call) s (room_for call before) slot ≡ pick (repeats (as_rules call) s own slot) again new
-            → Readable (plain (success_for call s before after Allocate)) [] (out_of (pick b again new))
+            → Readable (Some (success_for call s before after Allocate)) [] (out_of (pick b again new))
         go true is q =
             let same = kept_own (left.kept _ (q ∙ picked is)) (repeats_own (as_rules call) s own slot is) in
             allocated_back slot.allocation.port (seconds_left call.time slot.allocation.expiry) was.allocation.port (omega arith) (rw same refl) (rw same refl)
@@ -224,7 +223,7 @@ module _ (s : List ℕ) (bytes : Bytes s) where
             allocated_back (room_for call before).port (granted (lifetime s)) (port-fits _ _) (omega arith) (rw taken refl) (rw taken (omega arith))
 
     refresh_readable : Left before after (own_place call before) (refresh (as_rules call) s own slot)
-        → Readable (response_for denied call s before after Refresh) [] (out_of (refresh (as_rules call) s own slot))
+        → Readable (Some (response_for denied call s before after Refresh)) [] (out_of (refresh (as_rules call) s own slot))
     unfolding refresh
     refresh_readable left =
         respond_back _ _ _ _ _ (refresh_coded s (as_rules call) _ _) (λ e.
@@ -233,20 +232,20 @@ module _ (s : List ℕ) (bytes : Bytes s) where
         refresh_back (transaction_id_of s) (id_fits s bytes) _ (omega arith)
         (until_expiry call.time (granted_refresh (lifetime s)) slot made))
 
-    permission_readable : Readable (response_for denied call s before after CreatePermission) [] (out_of (create_permission (as_rules call) s (any_denied denied s) own slot))
+    permission_readable : Readable (Some (response_for denied call s before after CreatePermission)) [] (out_of (create_permission (as_rules call) s (any_denied denied s) own slot))
     unfolding create_permission
     permission_readable = respond_back _ _ _ _ _ (permission_coded s (as_rules call) _ own slot) (λ e. bare_back (transaction_id_of s) (id_fits s bytes) CreatePermission tt)
 
-    channel_readable : Readable (response_for denied call s before after ChannelBind) [] (out_of (channel_bind (as_rules call) s (first_denied denied s) own slot))
+    channel_readable : Readable (Some (response_for denied call s before after ChannelBind)) [] (out_of (channel_bind (as_rules call) s (first_denied denied s) own slot))
     unfolding channel_bind
     channel_readable = respond_back _ _ _ _ _ (channel_coded s (as_rules call) _ own slot) (λ e. bare_back (transaction_id_of s) (id_fits s bytes) ChannelBind tt)
 
     -- ---- A client's data
-    send_readable : Readable nothing [] (send (as_rules call) s own slot)
-    send_readable = send_is (Readable nothing []) (λ cause. tt) _ s own slot (λ start len e live. tt)
+    send_readable : Readable None [] (send (as_rules call) s own slot)
+    send_readable = send_is (Readable None []) (λ cause. tt) _ s own slot (λ value e live. tt)
 
-    channelled_readable : Readable nothing [] (send_channel_data (as_rules call) s own slot)
-    channelled_readable = channelled_is (Readable nothing []) (λ cause. tt) _ s own slot (λ number start len e there. tt)
+    channelled_readable : Readable None [] (send_channel_data (as_rules call) s own slot)
+    channelled_readable = channelled_is (Readable None []) (λ cause. tt) _ s own slot (λ message e there. tt)
 
     asked_readable : ((i : ℕ) → SlotFits (slot_at before i)) → (asked : Asked)
         → Left before after (on_asked (asks_denied denied s asked) call s before asked).place (on_asked (asks_denied denied s asked) call s before asked).change
@@ -265,27 +264,27 @@ ipv4_fits (V4 a) h = h
 ipv4_fits (V6 a b c d) h = lit< tt
 
 module _ (call : FromPeer) (s : List ℕ) (fits : CallFits (Peer call)) (few : length s ≤ 1500) where
-  relayed_back : (slot : Slot) → ReadAs (plain (relayed_for call (length s) slot)) s (relayed call.time call.source call.id s slot)
+  relayed_back : (slot : Slot) → ReadAs (Some (relayed_for call (length s) slot)) s (relayed call.time call.source call.id s slot)
   unfolding relayed at_or
   relayed_back slot = go (find (leads_to call.time call.source) slot.channels) refl
     where
-      number : Found → ℕ
+      number : Option ℕ → ℕ
       number f = (at_or fresh_channel f slot.channels).number
 
       peer : ℕ
       peer = ipv4_of call.source.address
 
-      go : (f : Found) → find (leads_to call.time call.source) slot.channels ≡ f
-          → ReadAs (plain (pick (has f) (Is.ChannelData (number f) 4 (length s)) (Is.DataIndication call.id peer call.source.port 36 (length s)))) s
+      go : (f : Option ℕ) → find (leads_to call.time call.source) slot.channels ≡ f
+          → ReadAs (Some (pick (has f) (Is.ChannelData (number f) 4 (length s)) (Is.DataIndication call.id peer call.source.port 36 (length s)))) s
           (pick (has f) (channel_data (number f) s) (data_indication call.id peer call.source.port s))
-      go (At i) e =
+      go (Some i) e =
           let live = (leads_is call.time call.source _ (find_some (leads_to call.time call.source) slot.channels fresh_channel i e).0).0 in
           channel_back _ s live.1 live.2 few
-      go Nothing e = indication_back call.id fits.1 peer call.source.port s (ipv4_fits call.source.address fits.0.0) fits.0.1 few
+      go None e = indication_back call.id fits.1 peer call.source.port s (ipv4_fits call.source.address fits.0.0) fits.0.1 few
 
-  peer_readable : (own : Bool) (slot : Slot) → Readable (plain (relayed_for call (length s) slot)) s (relay_from_peer call.time call.source call.id s own slot)
+  peer_readable : (own : Bool) (slot : Slot) → Readable (Some (relayed_for call (length s) slot)) s (relay_from_peer call.time call.source call.id s own slot)
   peer_readable own slot =
-      from_peer_is (Readable (plain (relayed_for call (length s) slot)) s) (λ cause. tt) _ _ _ s own slot (λ live. relayed_back slot)
+      from_peer_is (Readable (Some (relayed_for call (length s) slot)) s) (λ cause. tt) _ _ _ s own slot (λ live. relayed_back slot)
 
 -- ---- Every call
 
@@ -313,25 +312,29 @@ decided_within denied (Client call) s slots = asked_within denied call s slots (
 decided_within denied (Peer call) s slots = found_within _ slots _ refl
 
 abbrev ReadableAct : (denied : List ℕ) → Call → List ℕ → List Slot → Act → Type 0
-ReadableAct denied call s before (refuse number) = Unit
+ReadableAct denied call s before (refuse refusal) = Unit
 ReadableAct denied call s before (accept next out) = Readable (fields_for denied call s before next.slots) (data_for call s) out
 
-left_kept : (slots : List Slot) (place : Found) (out : Out) → Left slots slots place (keep out)
+abbrev slot_or_fresh : Change → Slot
+slot_or_fresh (keep out) = fresh_slot
+slot_or_fresh (write slot out) = slot
+
+left_kept : (slots : List Slot) (place : Option ℕ) (out : Out) → Left slots slots place (keep out)
 left_kept slots place out = record { wrote = λ slot out e. kept_not_written e; kept = λ out e. refl }
 
-done_readable : (denied : List ℕ) (call : Call) (s : List ℕ) (st : State) (place : Found) (change : Change) → Within place (length st.slots)
+done_readable : (denied : List ℕ) (call : Call) (s : List ℕ) (st : State) (place : Option ℕ) (change : Change) → Within place (length st.slots)
     → ((slot : Slot) (out : Out) → change ≡ write slot out → has place ≡ true)
     → ((after : List Slot) → Left st.slots after place change → Readable (fields_for denied call s st.slots after) (data_for call s) (out_of change))
     → ReadableAct denied call s st.slots (done st place change)
 unfolding at_or
-done_readable denied call s st (At k) (keep out) w h f = f st.slots (left_kept st.slots (At k) out)
-done_readable denied call s st (At k) (write slot out) w h f =
+done_readable denied call s st (Some k) (keep out) w h f = f st.slots (left_kept st.slots (Some k) out)
+done_readable denied call s st (Some k) (write slot out) w h f =
     f (set st.slots k slot) (record {
-      wrote = λ other out e. get_or-set_same st.slots k slot fresh_slot w ∙ ap (slot_after fresh_slot) e;
+      wrote = λ other out e. get_or-set_same st.slots k slot fresh_slot w ∙ ap slot_or_fresh e;
       kept = λ out e. kept_not_written (sym e);
     })
-done_readable denied call s st Nothing (keep out) w h f = f st.slots (left_kept st.slots Nothing out)
-done_readable denied call s st Nothing (write slot out) w h f = absurd (false≢true (h slot out refl))
+done_readable denied call s st None (keep out) w h f = f st.slots (left_kept st.slots None out)
+done_readable denied call s st None (write slot out) w h f = absurd (false≢true (h slot out refl))
 
 act_readable : (st : State) (a : Arrival) → StateFits st
     → ReadableAct st.bookkeeping.denied a.call a.datagram st.slots (act st a.call a.datagram (length a.reply))
@@ -348,7 +351,7 @@ act_readable st a f =
 -- ---- The theorem
 
 -- what the first n bytes of the reply hold, where the outcome is 'to the client, n bytes'
-sent_readable : (fields : ReadMessage) (payload : List ℕ) (out : Out) (reply : List ℕ) (C : FiveTuple) (n : ℕ) → Readable fields payload out
+sent_readable : (fields : Option Message) (payload : List ℕ) (out : Out) (reply : List ℕ) (C : FiveTuple) (n : ℕ) → Readable fields payload out
     → ToClient C n ≡ rules.outcome_of out → ReadAs fields payload (take n (rules.reply_after reply out))
 sent_readable fields payload (dropped cause) reply C n r e = dropped_not_sent cause (sym e)
 sent_readable fields payload (to_client D message) reply C n r e =
@@ -362,7 +365,7 @@ read_back before after a reply' C n f d = rw (d.state_is, d.reply_is) (go (act b
   where
     go : (x : Act) → ReadableAct before.bookkeeping.denied a.call a.datagram before.slots x → ToClient C n ≡ outcome_of x
         → ReadAs (fields_for before.bookkeeping.denied a.call a.datagram before.slots (state_after before x).slots) (data_for a.call a.datagram) (take n (reply_after a.reply x))
-    go (refuse number) r e = let z : ◌≡◌ {A = ℕ} 0 1 = cc in let y : ⊥ = omega arith in absurd y
+    go (refuse refusal) r e = let z : ◌≡◌ {A = ℕ} 0 1 = cc in let y : ⊥ = omega arith in absurd y
     go (accept next out) r e = sent_readable _ _ out a.reply C n r e
 
 -- so it is of every call after a list of calls to an empty relay
@@ -371,11 +374,11 @@ pub lived_read_back : (list : List Event) (st after : State) (e : Event) (C : Fi
 lived_read_back list st after e C n lived h is =
     read_back (met st e.arrival) after e.arrival e.reply C n (met_fits st e.arrival (slots_fit list empty st lived empty_fits)) (rw is at h)
 
-module _ {fields : ReadMessage} {payload message : List ℕ} (back : ReadAs fields payload message) where
+module _ {fields : Option Message} {payload message : List ℕ} (back : ReadAs fields payload message) where
   -- no other fields make the message
-  pub only_fields : (m : ReadMessage) → IsMessage m → InRange m message → written m message ≡ message → m ≡ fields
-  only_fields m is h w = sym ((back.exact.exactly m is).1 (h, w))
+  pub only_fields : (m : Message) → InRange m message → written m message ≡ message → Some m ≡ fields
+  only_fields m h w = sym ((back.exact.exactly m).1 (h, w))
 
   -- what `read_message` gives of it, by its promise
-  pub reader_gives : (r : ReadMessage) → Exact message r → r ≡ fields
+  pub reader_gives : (r : Option Message) → Exact message r → r ≡ fields
   reader_gives r x = one_reading message r fields x back.exact

@@ -10,14 +10,14 @@ use native.Mathlib.Nat.{le_refl}
 use lib.Dec.{eqb}
 use lib.ListN.{length, take}
 use borrow.Author.Tests.{le-ltb}
+use Rattle.std.specs.Prelude.{Option, Some, None}
 use Rattle.choice.specs.Choice.{pick}
 use Rattle.address.specs.declared.FiveTuple.{FiveTuple}
 use Rattle.stun.specs.declared.kinds.Method.{Method}
 use Rattle.stun.specs.declared.kinds.Method.TheVariants.{Allocate, Refresh, CreatePermission, ChannelBind}
 use Rattle.stun.specs.Kinds.{request_type}
 use Rattle.slot.specs.declared.Slot.{Slot}
-use Rattle.slot.specs.declared.Found.{Found}
-use Rattle.slot.specs.declared.Found.TheVariants.{Nothing}
+use Rattle.std.specs.Prelude.{Option, None}
 use Rattle.slot.specs.Search.{has, at_or}
 use Rattle.table.specs.Table.{slot_at}
 use Rattle.rules.specs.declared.answer.Outcome.{Outcome}
@@ -47,7 +47,7 @@ use Rattle.client_reader.specs.declared.Message.TheVariants as Reads
 use Rattle.client_reader.specs.Fields.{Bytes}
 use Rattle.client_reader.specs.Reader.{message_in}
 use Rattle.history.specs.Counted.{Counted, gave, kept, allowed, nothing, granted}
-use Rattle.history.specs.Events.{CallFits, Arrival, met, Event, Happened, Lived, asks, counts_as, counts_by, counted, acts, outcome, replied, next}
+use Rattle.history.specs.Events.{CallFits, Arrival, met, Event, Happened, Lived, asks, counts_as, read_as, counts_by, counted, acts, outcome, replied, next}
 use Rattle.history.proofs.Unseen.{Unseen}
 use Rattle.history.specs.Fits.{StateFits}
 use Rattle.history.specs.Statement.{Live}
@@ -102,17 +102,20 @@ module _ (call : FromClient) (s : List ℕ) {C : FiveTuple} {port t seconds : �
   message_of (Reads.BareSuccess CreatePermission id) e = never (pick_never (asks CreatePermission s) _ refl) e
   message_of (Reads.BareSuccess ChannelBind id) e = never (pick_never (asks ChannelBind s) _ refl) e
   message_of (Reads.Error method id code) e = never refl e
-  message_of (Reads.UnknownAttributes method id count) e = never refl e
+  message_of (Reads.UnknownAttributes method id types count) e = never refl e
   message_of (Reads.DataIndication id peer p start len) e = never refl e
   message_of (Reads.ChannelData number start len) e = never refl e
-  message_of Reads.Nothing e = never refl e
+
+  read_of : (o : Option Message) → read_as call s o ≡ gave C port t seconds → Of call s C t
+  read_of None e = never refl e
+  read_of (Some m) e = message_of m e
 
   outcome_of_lem : (o : Outcome) (reply : List ℕ) → counts_by (Client call) s o reply ≡ gave C port t seconds → Of call s C t
-  outcome_of_lem (Refused number) reply e = never refl e
+  outcome_of_lem (Refused refusal) reply e = never refl e
   outcome_of_lem DroppedLapsed reply e = never refl e
   outcome_of_lem DroppedNever reply e = never refl e
   outcome_of_lem DroppedOther reply e = never refl e
-  outcome_of_lem (ToClient fiveTuple n) reply e = message_of (message_in (take n reply)).message e
+  outcome_of_lem (ToClient fiveTuple n) reply e = read_of (message_in (take n reply)) e
   outcome_of_lem (ToPeer p peer start len) reply e = never refl e
 
 -- ---- The slot that answers a repeat
@@ -142,7 +145,7 @@ module _ (st : State) (past : List Counted) (I : AccountsFor past st) (typed : S
     own = slot_in l (own_place call l)
 
     -- what is kept and no success is none
-    silent : (place : Found) (out : Out) → Unaccepted out → Answers (Client call) s reply (done now place (keep out))
+    silent : (place : Option ℕ) (out : Out) → Unaccepted out → Answers (Client call) s reply (done now place (keep out))
     silent place out u = rw (done_keep now place out) (λ q. never (ap is_allocation (u.counts call s reply)) q)
 
     -- the request is no other
@@ -152,7 +155,7 @@ module _ (st : State) (past : List Counted) (I : AccountsFor past st) (typed : S
         clash _ (asks_for method s asked) (asks_no_other Allocate method s differ of.asked)
 
     -- a repeat is answered from the caller's own slot
-    again : (place : Found) → asked_by s ≡ Asked.Allocate → repeats (as_rules call) s (has (own_place call l)) own ≡ true
+    again : (place : Option ℕ) → asked_by s ≡ Asked.Allocate → repeats (as_rules call) s (has (own_place call l)) own ≡ true
         → Answers (Client call) s reply (done now place (told_again (as_rules call) s own))
     unfolding seconds_left at_or
     again place asked same = rw (done_keep now place (out_of (told_again (as_rules call) s own))) (λ q.
@@ -175,7 +178,7 @@ module _ (st : State) (past : List Counted) (I : AccountsFor past st) (typed : S
           same = rw (← when) refl;
         })
 
-    allocate_answers : (place : Found) → asked_by s ≡ Asked.Allocate → Answers (Client call) s reply (done now place (allocate (as_rules call) s (room_for call l) own))
+    allocate_answers : (place : Option ℕ) → asked_by s ≡ Asked.Allocate → Answers (Client call) s reply (done now place (allocate (as_rules call) s (room_for call l) own))
     unfolding allocate respond
     allocate_answers place asked = go (eqb code 0) refl (repeats (as_rules call) s (has (own_place call l)) own) refl
       where
@@ -209,7 +212,7 @@ module _ (st : State) (past : List Counted) (I : AccountsFor past st) (typed : S
     asked_answers Asked.Send e = silent (own_place call l) (send (as_rules call) s (has (own_place call l)) own) (send_unaccepted (as_rules call) s _ _)
     asked_answers Asked.ChannelData e =
         silent (own_place call l) (send_channel_data (as_rules call) s (has (own_place call l)) own) (channelled_unaccepted (as_rules call) s _ _)
-    asked_answers Asked.Nothing e = silent Nothing (dropped other_cause) (dropped_unaccepted other_cause)
+    asked_answers Asked.Nothing e = silent None (dropped other_cause) (dropped_unaccepted other_cause)
 
   call_answered : (call : Call) (s reply : List ℕ) → CallFits call → Bytes s → clock_of st ≤ time_of call → Answers call s reply (accepted st call s)
   unfolding accepted decided
@@ -259,7 +262,7 @@ clock_unseen (a ∷ later) st u t le le' none =
     event = record { arrival = a; outcome = outcome st a; reply = replied st a }
 
     on : Unseen (met st a) (at_time u (met st a)) later → (x : Act) → Unseen (state_after (met st a) x) (state_after (at_time u (met st a)) x) later
-    on unseen (refuse number) = unseen
+    on unseen (refuse refusal) = unseen
     on unseen (accept next out) = record { answers = refl; state = refl }
 
 -- ---- The two corollaries

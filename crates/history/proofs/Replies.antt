@@ -7,6 +7,7 @@ use native.Mathlib.Omega.{arith}
 use lib.Dec.{eqb, leb}
 use lib.ListN.{length, take, drop}
 use lib.Seq.{take_at}
+use Rattle.std.specs.Prelude.{Option, Some, None}
 use Rattle.wire.specs.Wire.{num, bytes_of}
 use Rattle.choice.specs.Choice.{pick, both}
 use Rattle.address.specs.declared.FiveTuple.{FiveTuple}
@@ -16,47 +17,46 @@ use Rattle.stun.specs.declared.kinds.Method.{Method}
 use Rattle.stun.specs.declared.kinds.Method.TheVariants.{Allocate, Refresh, CreatePermission, ChannelBind}
 use Rattle.stun.specs.Kinds.{error_type}
 use Rattle.stun.specs.Message.{unknown_types}
-use Rattle.stun.specs.Values.{transaction_id_of, peers, first_peer}
+use Rattle.stun.specs.Values.{transaction_id_of, peer_or_nobody, peers, first_peer}
 use Rattle.messages.specs.Messages.{message_bytes, error_code_attribute, unknown_attribute, error_response, unknown_response, allocate_success, refresh_success, bare_success}
 use Rattle.rules.specs.declared.answer.Outcome.TheVariants.{ToClient, ToPeer}
 use Rattle.interface.specs.Sending as Sending
 use Rattle.rules.specs.Change.{Cause, permission_lapsed, never_permitted, other_cause, dropped_for, Out, dropped, to_client, to_peer, outcome_of, reply_after, error_message}
 use Rattle.interface.specs.declared.incoming.Call.TheVariants.{Client}
 use Rattle.interface.specs.declared.incoming.FromClient.{FromClient}
-use Rattle.client_reader.specs.declared.ReadMessage.{ReadMessage}
-use Rattle.client_reader.specs.Fields.{Bytes, IdFits, written, plain}
+use Rattle.client_reader.specs.Fields.{Bytes, IdFits, written}
 use Rattle.client_reader.specs.declared.Message.{Message}
-use Rattle.client_reader.specs.declared.Message.TheVariants.{AllocateSuccess, RefreshSuccess, BareSuccess, Error, UnknownAttributes, DataIndication, ChannelData, Nothing}
+use Rattle.client_reader.specs.declared.Message.TheVariants.{AllocateSuccess, RefreshSuccess, BareSuccess, Error, UnknownAttributes, DataIndication, ChannelData}
 use Rattle.client_reader.specs.Inner.{count_fits, all_below, types_of, unknown_of, when, error_fields, unknown_fields, plain_error_fields, code_of, fields_of, same_bytes, checked}
 use Rattle.client_reader.specs.Reader.{message_in}
 use Rattle.client_reader.proofs.Laws.{read_allocate, read_refresh, read_bare}
 use Rattle.client_reader.proofs.Around.{num_lt}
 use Rattle.history.specs.Counted.{Counted, gave, kept, allowed, nothing, granted, without_repeats}
-use Rattle.history.specs.Events.{TransportFits, addresses_of, asks, counts_as, counts_by}
+use Rattle.history.specs.Events.{TransportFits, addresses_of, asks, counts_as, read_as, counts_by}
 use Rattle.history.proofs.Asking.{asks_no_other}
 
 -- ---- Errors count as nothing
-pub record Silent (r : ReadMessage) : Type 0 where
-  pub is : (call : FromClient) (s : List ℕ) → counts_as call s r.message ≡ nothing
+pub record Silent (r : Option Message) : Type 0 where
+  pub is : (call : FromClient) (s : List ℕ) → read_as call s r ≡ nothing
 
-when_silent : (b : Bool) (r : ReadMessage) → Silent r → Silent (when b r)
+when_silent : (b : Bool) (r : Option Message) → Silent r → Silent (when b r)
 when_silent true r h = h
 when_silent false r h = record { is = λ call s. refl }
 
-pick_silent : (b : Bool) (q r : ReadMessage) → Silent q → Silent r → Silent (pick b q r)
+pick_silent : (b : Bool) (q r : Option Message) → Silent q → Silent r → Silent (pick b q r)
 pick_silent true q r g h = g
 pick_silent false q r g h = h
 
 unknown_silent : (method : Method) (m : List ℕ) (count : ℕ) → Silent (unknown_fields method m count)
 unfolding unknown_fields
 unknown_silent method m count =
-    let fields = unknown_of method m count (types_of m count) in
+    let fields = Some (unknown_of method m count (types_of m count)) in
     when_silent (count_fits count m) (when (all_below 0x8000 (types_of m count)) fields)
     (when_silent (all_below 0x8000 (types_of m count)) fields (record { is = λ call s. refl }))
 
 plain_silent : (method : Method) (m : List ℕ) (code : ℕ) → Silent (plain_error_fields method m code)
 unfolding plain_error_fields
-plain_silent method m code = when_silent (both (leb 300 code) (leb code 699)) (plain (Error method (transaction_id_of m) code)) (record { is = λ call s. refl })
+plain_silent method m code = when_silent (both (leb 300 code) (leb code 699)) (Some (Error method (transaction_id_of m) code)) (record { is = λ call s. refl })
 
 error_silent : (method : Method) (m : List ℕ) → Silent (error_fields method m)
 unfolding error_fields
@@ -93,7 +93,11 @@ type_of ChannelBind id body = refl
 
 read_silent : (m : List ℕ) → Silent (fields_of m) → Silent (message_in m)
 unfolding message_in checked
-read_silent m h = when_silent (same_bytes (written (fields_of m) m) m) (fields_of m) h
+read_silent m h = go (fields_of m) h
+  where
+    go : (o : Option Message) → Silent o → Silent (checked o m)
+    go None k = k
+    go (Some r) k = when_silent (same_bytes (written r m) m) (Some r) k
 
 error_message_silent : (method : Method) (s : List ℕ) (code : ℕ) → Silent (message_in (error_message method s code))
 unfolding error_message error_response unknown_response
@@ -142,7 +146,7 @@ sent message reply = take_at message (drop (length message) reply) (length messa
 
 pub error_unaccepted : (fiveTuple : FiveTuple) (method : Method) (s : List ℕ) (code : ℕ) → Unaccepted (to_client fiveTuple (error_message method s code))
 error_unaccepted fiveTuple method s code = record {
-  counts = λ call s' reply. ap (λ (m : List ℕ). counts_as call s' (message_in m).message) (sent (error_message method s code) reply) ∙ (error_message_silent method s code).is call s';
+  counts = λ call s' reply. ap (λ (m : List ℕ). read_as call s' (message_in m)) (sent (error_message method s code) reply) ∙ (error_message_silent method s code).is call s';
 }
 
 -- ---- What a success counts as
@@ -151,17 +155,17 @@ unfolding transaction_id_of
 id_fits s h = (num_lt s h 8 4, num_lt s h 12 4, num_lt s h 16 4)
 
 module _ (call : FromClient) (s reply : List ℕ) (h : Bytes s) where
-  counts-sent : (message : List ℕ) {r : ReadMessage} → message_in message ≡ r
-      → counts_by (Client call) s (outcome_of (to_client call.five_tuple message)) (reply_after reply (to_client call.five_tuple message)) ≡ counts_as call s r.message
+  counts-sent : (message : List ℕ) {r : Option Message} → message_in message ≡ r
+      → counts_by (Client call) s (outcome_of (to_client call.five_tuple message)) (reply_after reply (to_client call.five_tuple message)) ≡ read_as call s r
   counts-sent message {r} e =
-      ap (λ (m : List ℕ). counts_as call s (message_in m).message) (sent message reply) ∙ ap (λ (x : ReadMessage). counts_as call s x.message) e
+      ap (λ (m : List ℕ). read_as call s (message_in m)) (sent message reply) ∙ ap (read_as call s) e
 
   abbrev Counts : List ℕ → Counted
   Counts message = counts_by (Client call) s (outcome_of (to_client call.five_tuple message)) (reply_after reply (to_client call.five_tuple message))
 
   -- where the datagram is a request of the method
-  counts_asked : (message : List ℕ) {r : ReadMessage} (method : Method) (c : Counted) → message_in message ≡ r
-      → counts_as call s r.message ≡ pick (asks method s) c nothing → asks method s ≡ true → Counts message ≡ c
+  counts_asked : (message : List ℕ) {r : Option Message} (method : Method) (c : Counted) → message_in message ≡ r
+      → read_as call s r ≡ pick (asks method s) c nothing → asks method s ≡ true → Counts message ≡ c
   counts_asked message method c e is asked = counts-sent message e ∙ is ∙ ap (λ (b : Bool). pick b c nothing) asked
 
   pub allocate-counts : (port seconds : ℕ) → call.relay < 2 ^ 32 → port < 2 ^ 16 → seconds < 2 ^ 32 → TransportFits call.five_tuple.client
@@ -179,7 +183,7 @@ module _ (call : FromClient) (s reply : List ℕ) (h : Bytes s) where
   permission_counts = counts_asked _ CreatePermission _ (read_bare (transaction_id_of s) (id_fits s h) CreatePermission tt) refl
 
   pub channel_counts : asks ChannelBind s ≡ true
-      → Counts (bare_success ChannelBind (transaction_id_of s)) ≡ allowed call.five_tuple ((first_peer s).peer.address ∷ []) (call.time + 300)
+      → Counts (bare_success ChannelBind (transaction_id_of s)) ≡ allowed call.five_tuple ((peer_or_nobody (first_peer s)).address ∷ []) (call.time + 300)
   channel_counts = counts_asked _ ChannelBind _ (read_bare (transaction_id_of s) (id_fits s h) ChannelBind tt) refl
 
 -- ---- An Allocate of a client whose lifetime lasts counts as nothing, whatever comes back
@@ -192,12 +196,15 @@ module _ (call : FromClient) (s : List ℕ) (past : List Counted) (asked : asks 
   message_left_out (BareSuccess CreatePermission id) = rw (asks_no_other Allocate CreatePermission s refl asked)
   message_left_out (BareSuccess ChannelBind id) = rw (asks_no_other Allocate ChannelBind s refl asked)
   message_left_out (Error method id code) = refl
-  message_left_out (UnknownAttributes method id count) = refl
+  message_left_out (UnknownAttributes method id types count) = refl
   message_left_out (DataIndication id peer port start len) = refl
   message_left_out (ChannelData number start len) = refl
-  message_left_out Nothing = refl
+
+  read_left_out : (o : Option Message) → without_repeats past (read_as call s o) ≡ nothing
+  read_left_out None = refl
+  read_left_out (Some m) = message_left_out m
 
   pub left_out : (out : Out) (reply : List ℕ) → without_repeats past (counts_by (Client call) s (outcome_of out) (reply_after reply out)) ≡ nothing
   left_out (dropped cause) reply = ap (without_repeats past) ((dropped_unaccepted cause).counts call s reply)
-  left_out (to_client fiveTuple message) reply = message_left_out (message_in (take (length message) (reply_after reply (to_client fiveTuple message)))).message
+  left_out (to_client fiveTuple message) reply = read_left_out (message_in (take (length message) (reply_after reply (to_client fiveTuple message))))
   left_out (to_peer port peer start len) reply = refl

@@ -8,6 +8,7 @@ use native.Mathlib.Nat.{le_refl, le_trans}
 use Rattle.address.specs.declared.Address.{Address}
 use Rattle.address.specs.declared.Address.TheVariants.{V4}
 use Rattle.address.specs.declared.FiveTuple.{FiveTuple}
+use Rattle.refusal.specs.declared.Refusal.{Refusal}
 use Rattle.rules.specs.declared.answer.Outcome.TheVariants.{Refused}
 use Rattle.state.specs.State.{State, clock_of}
 use Rattle.interface.specs.Refusals.{time_of}
@@ -121,7 +122,7 @@ module _ (C : FiveTuple) (R : ℕ) (a : Address) where
 
 -- the clock before and after a peer's datagram that is not refused
 peer_clock : (st after : State) (e : Event) (R : ℕ) (a : Address) (t : ℕ) → Happened st e after → FromAddress e.arrival R a t
-    → ((number : ℕ) → e.outcome ≢ Refused number) → (clock_of st ≤ t) × (t ≤ clock_of after)
+    → ((refusal : Refusal) → e.outcome ≢ Refused refusal) → (clock_of st ≤ t) × (t ≤ clock_of after)
 peer_clock st after e R a t h from nr = go (acts st e.arrival) (moves st e.arrival) h.outcome_is h.state_is
   where
     go : (x : Act) → Moved (met st e.arrival) e.arrival x → e.outcome ≡ outcome_of x → after ≡ state_after (met st e.arrival) x → (clock_of st ≤ t) × (t ≤ clock_of after)

@@ -11,8 +11,7 @@ use Rattle.wire.specs.Wire.{part_of}
 use Rattle.choice.specs.Choice.{pick}
 use Rattle.address.specs.declared.TransportAddress.{TransportAddress}
 use Rattle.slot.specs.declared.Slot.{Slot}
-use Rattle.slot.specs.declared.Found.{Found}
-use Rattle.slot.specs.declared.Found.TheVariants.{At, Nothing}
+use Rattle.std.specs.Prelude.{Option, Some, None}
 use Rattle.rules.specs.declared.answer.Outcome.TheVariants.{ToPeer}
 use Rattle.decisions.specs.declared.client.Asked.{Asked}
 use Rattle.rules.specs.Change.{Change, keep, write, dropped, to_client, to_peer, out_of}
@@ -33,7 +32,7 @@ use Rattle.history.proofs.Replies.{dropped_sends, dropped_not_relayed}
 
 -- what an act gives out fits
 abbrev ActFits : List ℕ → Act → Type 0
-ActFits s (refuse number) = Unit
+ActFits s (refuse refusal) = Unit
 ActFits s (accept next out) = (length s ≤ 1500) × Fits s out
 
 asked_fits : (denied : Bool) (call : FromClient) (s : List ℕ) (slots : List Slot) (asked : Asked) → Fits s (out_of (on_asked denied call s slots asked).change)
@@ -50,10 +49,10 @@ unfolding decided
 decided_fits denied (Client call) s slots h = asked_fits denied call s slots (asked_by s)
 decided_fits denied (Peer call) s slots h = from_peer_fits call.time call.source call.id s _ _ h
 
-done_fits : (s : List ℕ) (st : State) (found : Found) (change : Change) → length s ≤ 1500 → Fits s (out_of change) → ActFits s (done st found change)
-done_fits s st (At k) (keep out) h f = (h, f)
-done_fits s st (At k) (write slot out) h f = (h, f)
-done_fits s st Nothing change h f = (h, f)
+done_fits : (s : List ℕ) (st : State) (found : Option ℕ) (change : Change) → length s ≤ 1500 → Fits s (out_of change) → ActFits s (done st found change)
+done_fits s st (Some k) (keep out) h f = (h, f)
+done_fits s st (Some k) (write slot out) h f = (h, f)
+done_fits s st None change h f = (h, f)
 
 -- '4 datagram over 1,500 bytes'
 not_long : (clock slots reply : ℕ) (s : List ℕ) (call : Call) → refusal clock (lengths slots (length s) reply) call ≡ 0 → length s ≤ 1500
@@ -82,7 +81,7 @@ unfolding part_of
 nothing_larger st call s reply datagram buffer = go (act st call s reply) (act_fits st call s reply)
   where
     go : (it : Act) → ActFits s it → length (sent (outcome_of it) datagram buffer) ≤ 1536
-    go (refuse number) f = omega arith
+    go (refuse refusal) f = omega arith
     go (accept next (dropped cause)) f = rw (dropped_sends cause datagram buffer) (omega arith)
     go (accept next (to_client fiveTuple message)) f = omega (arith, part_short (leb (length message) (length buffer)) (length message) buffer, f.1)
     go (accept next (to_peer port peer start len)) f = omega (arith, part_short (leb (start + len) (length datagram)) len (drop start datagram), f.0, f.1)
@@ -93,7 +92,7 @@ pub payload_within : (st : State) (call : Call) (s : List ℕ) (reply : ℕ) {po
 payload_within st call s reply {port} {peer} {start} {len} e = go (act st call s reply) (act_fits st call s reply) e
   where
     go : (it : Act) → ActFits s it → outcome_of it ≡ ToPeer port peer start len → start + len ≤ length s
-    go (refuse number) f e = let z : ◌≡◌ {A = ℕ} 0 1 = cc in omega arith
+    go (refuse refusal) f e = let z : ◌≡◌ {A = ℕ} 0 1 = cc in omega arith
     go (accept next (dropped cause)) f e = dropped_not_relayed cause e
     go (accept next (to_client fiveTuple message)) f e = let z : ◌≡◌ {A = ℕ} 0 1 = cc in omega arith
     go (accept next (to_peer port' peer' start' len')) f e =

@@ -4,14 +4,14 @@ use mathlib.Core.Path.{◌≡◌, refl}
 use mathlib.Core.List.{List, [], ◌∷◌}
 use lib.Dec.{eqb}
 use lib.ListN.{length, get_or, set}
+use Rattle.std.proofs.Common.{Option}
 use Rattle.choice.proofs.Laws.{chosen}
+use Rattle.stun.specs.Values.{peer_or_nobody}
 use Rattle.slot.specs.declared.Slot.{Slot}
-use Rattle.slot.specs.declared.Found.{Found}
-use Rattle.slot.specs.declared.Found.TheVariants.{At, Nothing}
-use Rattle.slot.specs.declared.Placed.{Placed}
+use Rattle.std.specs.Prelude.{Option, Some, None}
 use Rattle.slot.specs.Search.{put_at, at_or}
-use Rattle.slot.specs.Slot.{fresh_slot, permit}
-use Rattle.stun.specs.declared.values.AddressValue.{AddressValue}
+use Rattle.slot.specs.Slot.{fresh_slot, permit, Placed}
+use Rattle.address.specs.declared.TransportAddress.{TransportAddress}
 use Rattle.table.specs.Table.{slot_at}
 use Rattle.rules.specs.Change.{Out, Change, keep, write}
 use Rattle.allocation_rules.specs.Allocations.{renewed, refreshed}
@@ -33,29 +33,29 @@ module _ {A : Type 0} (P : A → Type 0) (d x : A) (h : P x) where
   set_keeps (y ∷ l) (suc k) f zero = f zero
   set_keeps (y ∷ l) (suc k) f (suc i) = set_keeps l k (λ j. f (suc j)) i
 
-  pub place_keeps : (found : Found) (l : List A) → ((i : ℕ) → P (get_or l i d)) → (i : ℕ) → P (get_or (put_at found x l) i d)
+  pub place_keeps : (found : Option ℕ) (l : List A) → ((i : ℕ) → P (get_or l i d)) → (i : ℕ) → P (get_or (put_at found x l) i d)
   unfolding put_at
-  place_keeps (At k) l f = set_keeps l k f
-  place_keeps Nothing l f = f
+  place_keeps (Some k) l f = set_keeps l k f
+  place_keeps None l f = f
 
 module _ (P : Slot → Type 0) where
   -- ---- What is found, and what a request makes of it
-  pub found_keeps : P fresh_slot → (found : Found) (l : List Slot) → ((i : ℕ) → P (slot_at l i)) → P (at_or fresh_slot found l)
+  pub found_keeps : P fresh_slot → (found : Option ℕ) (l : List Slot) → ((i : ℕ) → P (slot_at l i)) → P (at_or fresh_slot found l)
   unfolding at_or
-  found_keeps fresh (At k) l f = f k
-  found_keeps fresh Nothing l f = fresh
+  found_keeps fresh (Some k) l f = f k
+  found_keeps fresh None l f = fresh
 
   module _ (t : ℕ) where
     -- each of these addresses may be permitted
-    abbrev pub MayPermit : List AddressValue → Type 0
+    abbrev pub MayPermit : List (Option TransportAddress) → Type 0
     MayPermit [] = Unit
-    MayPermit (v ∷ l) = ((slot : Slot) → P slot → P (permit t v.peer.address slot).slot) × MayPermit l
+    MayPermit (v ∷ l) = ((slot : Slot) → P slot → P (permit t (peer_or_nobody v).address slot).slot) × MayPermit l
 
-    pub permits_keep : (l : List AddressValue) (was slot : Slot) → MayPermit l → P was → P slot → P (permit_all t l was slot).slot
+    pub permits_keep : (l : List (Option TransportAddress)) (was slot : Slot) → MayPermit l → P was → P slot → P (permit_all t l was slot).slot
     unfolding permit_all permit_peer
     permits_keep [] was slot a w f = f
     permits_keep (v ∷ l) was slot a w f =
-        let one = permit t v.peer.address slot in
+        let one = permit t (peer_or_nobody v).address slot in
         chosen (λ (x : Placed). P x.slot) one.ok (λ _. permits_keep l was one.slot a.1 w (a.0 slot f)) (λ _. w)
 
     pub refreshed_keeps : (seconds : ℕ) (slot : Slot) → P fresh_slot → P (renewed (t + seconds) slot) → P (refreshed t seconds slot)
@@ -66,11 +66,11 @@ module _ (P : Slot → Type 0) where
   abbrev pub Writes : Change → Type 0
   Writes change = (slot : Slot) (out : Out) → change ≡ write slot out → P slot
 
-  done_keeps : (was st : State) (found : Found) (change : Change) → ((i : ℕ) → P (slot_at st.slots i)) → Writes change
+  done_keeps : (was st : State) (found : Option ℕ) (change : Change) → ((i : ℕ) → P (slot_at st.slots i)) → Writes change
       → (i : ℕ) → P (slot_at (state_after was (done st found change)).slots i)
-  done_keeps was st (At k) (keep out) f w = f
-  done_keeps was st (At k) (write slot out) f w = set_keeps P fresh_slot slot (w slot out refl) st.slots k f
-  done_keeps was st Nothing change f w = f
+  done_keeps was st (Some k) (keep out) f w = f
+  done_keeps was st (Some k) (write slot out) f w = set_keeps P fresh_slot slot (w slot out refl) st.slots k f
+  done_keeps was st None change f w = f
 
   -- a call that is not refused writes such a slot, or none
   pub next_keeps : (st : State) (a : Arrival) → ((i : ℕ) → P (slot_at st.slots i))

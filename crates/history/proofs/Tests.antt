@@ -19,8 +19,7 @@ use Rattle.slot.specs.declared.Permission.{Permission}
 use Rattle.slot.specs.declared.permissions.PermissionState.{PermissionState}
 use Rattle.slot.specs.declared.Channel.{Channel}
 use Rattle.slot.specs.declared.Slot.{Slot}
-use Rattle.slot.specs.declared.Found.{Found}
-use Rattle.slot.specs.declared.Found.TheVariants.{At, Nothing}
+use Rattle.std.specs.Prelude.{Option, Some, None}
 use Rattle.slot.specs.Search.{further, find, has, or_else, entry}
 use Rattle.slot.specs.Slot.{live_allocation, fresh_permission, fresh_channel, fresh_slot, live_permission, free_permission, permits, entered, permission_state, is_channel_number, live_channel, numbered, leads_to, holds, holds_port}
 use Rattle.table.specs.Table.{slot_at, in_slot, lapsed}
@@ -37,46 +36,46 @@ both_not false b e p = absurd (false≢true p)
 
 -- ---- The lowest that passes
 module _ {A : Type 0} where
-  pub find_some : (p : A → Bool) (l : List A) (d : A) (i : ℕ) → find p l ≡ At i → (p (get_or l i d) ≡ true) × (i < length l)
+  pub find_some : (p : A → Bool) (l : List A) (d : A) (i : ℕ) → find p l ≡ Some i → (p (get_or l i d) ≡ true) × (i < length l)
   unfolding find
   find_some p [] d i e = let z : ◌≡◌ {A = ℕ} 0 1 = cc in let y : ⊥ = omega arith in absurd y
   find_some p (x ∷ l) d i e = go (p x) refl (find p l) refl e (find_some p l d)
     where
-      go : (b : Bool) → p x ≡ b → (o : Found) → find p l ≡ o → pick b (At zero) (further o) ≡ At i
-          → ((j : ℕ) → find p l ≡ At j → (p (get_or l j d) ≡ true) × (j < length l)) → (p (get_or (x ∷ l) i d) ≡ true) × (i < suc (length l))
+      go : (b : Bool) → p x ≡ b → (o : Option ℕ) → find p l ≡ o → pick b (Some zero) (further o) ≡ Some i
+          → ((j : ℕ) → find p l ≡ Some j → (p (get_or l j d) ≡ true) × (j < length l)) → (p (get_or (x ∷ l) i d) ≡ true) × (i < suc (length l))
       go true e o f q ih = let z : zero ≡ i = cc in rw (← z) (e, omega arith)
-      go false e Nothing f q ih = let z : ◌≡◌ {A = ℕ} 0 1 = cc in let y : ⊥ = omega arith in absurd y
-      go false e (At j) f q ih = let z : suc j ≡ i = cc in let r = ih j f in rw (← z) (r.0, suc-le-suc r.1)
+      go false e None f q ih = let z : ◌≡◌ {A = ℕ} 0 1 = cc in let y : ⊥ = omega arith in absurd y
+      go false e (Some j) f q ih = let z : suc j ≡ i = cc in let r = ih j f in rw (← z) (r.0, suc-le-suc r.1)
 
   -- no entry passes, not even one past the end where the default does not pass
-  pub find_none : (p : A → Bool) (l : List A) (d : A) → p d ≡ false → find p l ≡ Nothing → (i : ℕ) → p (get_or l i d) ≡ false
+  pub find_none : (p : A → Bool) (l : List A) (d : A) → p d ≡ false → find p l ≡ None → (i : ℕ) → p (get_or l i d) ≡ false
   unfolding find
   find_none p [] d z e i = z
   find_none p (x ∷ l) d z e i = go (p x) refl (find p l) refl e i (find_none p l d z)
     where
-      go : (b : Bool) → p x ≡ b → (o : Found) → find p l ≡ o → pick b (At zero) (further o) ≡ Nothing → (i : ℕ)
-          → (find p l ≡ Nothing → (j : ℕ) → p (get_or l j d) ≡ false) → p (get_or (x ∷ l) i d) ≡ false
+      go : (b : Bool) → p x ≡ b → (o : Option ℕ) → find p l ≡ o → pick b (Some zero) (further o) ≡ None → (i : ℕ)
+          → (find p l ≡ None → (j : ℕ) → p (get_or l j d) ≡ false) → p (get_or (x ∷ l) i d) ≡ false
       go true e o f q i ih = let z : ◌≡◌ {A = ℕ} 0 1 = cc in let y : ⊥ = omega arith in absurd y
-      go false e (At j) f q i ih = let z : ◌≡◌ {A = ℕ} 0 1 = cc in let y : ⊥ = omega arith in absurd y
-      go false e Nothing f q zero ih = e
-      go false e Nothing f q (suc i) ih = ih f i
+      go false e (Some j) f q i ih = let z : ◌≡◌ {A = ℕ} 0 1 = cc in let y : ⊥ = omega arith in absurd y
+      go false e None f q zero ih = e
+      go false e None f q (suc i) ih = ih f i
 
-  pub entry_is : (mine free : A → Bool) (l : List A) (j : ℕ) → entry mine free l ≡ At j
-      → (find mine l ≡ At j) ⊎ ((find mine l ≡ Nothing) × (find free l ≡ At j))
+  pub entry_is : (mine free : A → Bool) (l : List A) (j : ℕ) → entry mine free l ≡ Some j
+      → (find mine l ≡ Some j) ⊎ ((find mine l ≡ None) × (find free l ≡ Some j))
   unfolding entry
   entry_is mine free l j e = go (find mine l) refl e
     where
-      go : (o : Found) → find mine l ≡ o → or_else o (find free l) ≡ At j → (find mine l ≡ At j) ⊎ ((find mine l ≡ Nothing) × (find free l ≡ At j))
-      go Nothing q e = inr (q, e)
-      go (At i) q e = inl (q ∙ e)
+      go : (o : Option ℕ) → find mine l ≡ o → or_else o (find free l) ≡ Some j → (find mine l ≡ Some j) ⊎ ((find mine l ≡ None) × (find free l ≡ Some j))
+      go None q e = inr (q, e)
+      go (Some i) q e = inl (q ∙ e)
 
-pub has_not : (o : Found) → has o ≡ false → o ≡ Nothing
-has_not Nothing e = refl
-has_not (At i) e = absurd (true≢false e)
+pub has_not : (o : Option ℕ) → has o ≡ false → o ≡ None
+has_not None e = refl
+has_not (Some i) e = absurd (true≢false e)
 
-pub has_at : (o : Found) → has o ≡ true → (i : ℕ) × (o ≡ At i)
-has_at Nothing e = absurd (false≢true e)
-has_at (At i) e = (i, refl)
+pub has_at : (o : Option ℕ) → has o ≡ true → (i : ℕ) × (o ≡ Some i)
+has_at None e = absurd (false≢true e)
+has_at (Some i) e = (i, refl)
 
 -- ---- Slots
 module _ (t : ℕ) where
@@ -90,7 +89,7 @@ module _ (t : ℕ) where
 
   -- the slot that was found for a 5-tuple is live and has it
   pub found_own : (C : FiveTuple) (l : List Slot) → has (find (in_slot (holds t C)) l) ≡ true
-      → (k : ℕ) × (find (in_slot (holds t C)) l ≡ At k) × Live t (slot_at l k) × ((slot_at l k).allocation.five_tuple ≡ C)
+      → (k : ℕ) × (find (in_slot (holds t C)) l ≡ Some k) × Live t (slot_at l k) × ((slot_at l k).allocation.five_tuple ≡ C)
   found_own C l e =
       let f = has_at _ e in
       let o = own_is C (slot_at l f.0) (find_some (in_slot (holds t C)) l fresh_slot f.0 f.1).0 in
@@ -104,14 +103,14 @@ module _ (t : ℕ) where
   unfolding live_allocation
   lapsed_is s e = ltb-false _ _ (not-true _ e)
 
-  pub none_own : (C : FiveTuple) (l : List Slot) → find (in_slot (holds t C)) l ≡ Nothing → (i : ℕ) → Live t (slot_at l i)
+  pub none_own : (C : FiveTuple) (l : List Slot) → find (in_slot (holds t C)) l ≡ None → (i : ℕ) → Live t (slot_at l i)
       → (slot_at l i).allocation.five_tuple ≢ C
   unfolding holds live_allocation fresh_slot
   none_own C l e i x q =
       clash (same_five_tuple (slot_at l i).allocation.five_tuple C) (rw (← q) (five_tuple_refl (slot_at l i).allocation.five_tuple))
       (both_not _ _ (find_none (in_slot (holds t C)) l fresh_slot (dead _) e i) (lt-ltb _ _ x))
 
-  pub none_port : (R : ℕ) (l : List Slot) → find (in_slot (holds_port t R)) l ≡ Nothing → (i : ℕ) → Live t (slot_at l i)
+  pub none_port : (R : ℕ) (l : List Slot) → find (in_slot (holds_port t R)) l ≡ None → (i : ℕ) → Live t (slot_at l i)
       → (slot_at l i).allocation.port ≢ R
   unfolding holds_port live_allocation fresh_slot
   none_port R l e i x = eqb-false _ _ (both_not _ _ (find_none (in_slot (holds_port t R)) l fresh_slot (dead _) e i) (lt-ltb _ _ x))
@@ -125,7 +124,7 @@ module _ (t : ℕ) where
   unfolding free_permission live_permission
   permission_free p e = ltb-false _ _ (not-true _ e)
 
-  pub none_permission : (a : Address) (l : List Permission) → find (permits t a) l ≡ Nothing → (i : ℕ) → t < (permission_at l i).expiry
+  pub none_permission : (a : Address) (l : List Permission) → find (permits t a) l ≡ None → (i : ℕ) → t < (permission_at l i).expiry
       → (permission_at l i).address ≢ a
   unfolding permits live_permission
   none_permission a l e i x q =
@@ -170,11 +169,11 @@ module _ (t : ℕ) where
   unfolding live_channel
   fresh_channel_lem = dead _
 
-  pub none-numbered : (n : ℕ) (l : List Channel) → find (numbered t n) l ≡ Nothing → (i : ℕ) → LiveChannel t (channel_at l i) → (channel_at l i).number ≢ n
+  pub none-numbered : (n : ℕ) (l : List Channel) → find (numbered t n) l ≡ None → (i : ℕ) → LiveChannel t (channel_at l i) → (channel_at l i).number ≢ n
   unfolding numbered both
   none-numbered n l e i x = eqb-false _ _ (both_not _ _ (find_none (numbered t n) l fresh_channel (rw fresh_channel_lem) e i) (channel_of _ x))
 
-  pub none_leads : (p : TransportAddress) (l : List Channel) → find (leads_to t p) l ≡ Nothing → (i : ℕ) → LiveChannel t (channel_at l i) → (channel_at l i).peer ≢ p
+  pub none_leads : (p : TransportAddress) (l : List Channel) → find (leads_to t p) l ≡ None → (i : ℕ) → LiveChannel t (channel_at l i) → (channel_at l i).peer ≢ p
   unfolding leads_to both
   none_leads p l e i x q =
       clash (same_transport_address (channel_at l i).peer p) (rw (← q) (transport_address_refl (channel_at l i).peer))

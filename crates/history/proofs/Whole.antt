@@ -15,12 +15,12 @@ use Rattle.address.specs.declared.TransportAddress.{TransportAddress}
 use Rattle.address.specs.declared.TransactionId.{TransactionId}
 use Rattle.slot.specs.declared.Slot.{Slot}
 use Rattle.slot.specs.declared.permissions.PermissionState.{PermissionState}
-use Rattle.slot.specs.declared.Found.{Found}
-use Rattle.slot.specs.declared.Found.TheVariants.{At, Nothing}
+use Rattle.std.specs.Prelude.{Option, Some, None}
 use Rattle.slot.specs.Search.{find, has, at_or}
 use Rattle.slot.specs.Slot.{fresh_slot, permission_state, holds_port}
 use Rattle.table.specs.Table.{slot_at, in_slot}
 use Rattle.rules.specs.declared.answer.Outcome.{Outcome}
+use Rattle.refusal.specs.declared.Refusal.{Refusal}
 use Rattle.rules.specs.declared.answer.Outcome.TheVariants.{Refused, DroppedLapsed, DroppedNever, DroppedOther, ToClient}
 use Rattle.rules.specs.Change as rules
 use Rattle.rules.specs.Change.{Cause, permission_lapsed, never_permitted, other_cause, dropped_for, Out, to_client, Change, keep, write}
@@ -69,24 +69,24 @@ accounts_empty = record {
 }
 
 -- ---- One call
-pub refused_counts : (call : Call) (s : List ℕ) (number : ℕ) (reply : List ℕ) → counts_by call s (Refused number) reply ≡ nothing
-refused_counts (Client call) s number reply = refl
-refused_counts (Peer call) s number reply = refl
+pub refused_counts : (call : Call) (s : List ℕ) (refusal : Refusal) (reply : List ℕ) → counts_by call s (Refused refusal) reply ≡ nothing
+refused_counts (Client call) s refusal reply = refl
+refused_counts (Peer call) s refusal reply = refl
 
 -- a call that is not refused sets the clock
 clock_accepted : (st : State) (call : Call) (s : List ℕ) → clock_of (state_after st (accepted st call s)) ≡ time_of call
 unfolding accepted
 clock_accepted st call s = go (decision st call s).place (decision st call s).change
   where
-    go : (found : Found) (change : Change) → clock_of (state_after st (done (at_time (time_of call) st) found change)) ≡ time_of call
-    go (At k) (keep out) = refl
-    go (At k) (write slot out) = refl
-    go Nothing change = refl
+    go : (found : Option ℕ) (change : Change) → clock_of (state_after st (done (at_time (time_of call) st) found change)) ≡ time_of call
+    go (Some k) (keep out) = refl
+    go (Some k) (write slot out) = refl
+    go None change = refl
 
 -- a peer's datagram changes no slot
-pub done_keep : (st : State) (found : Found) (out : Out) → done st found (keep out) ≡ accept st out
-done_keep st (At k) out = refl
-done_keep st Nothing out = refl
+pub done_keep : (st : State) (found : Option ℕ) (out : Out) → done st found (keep out) ≡ accept st out
+done_keep st (Some k) out = refl
+done_keep st None out = refl
 
 peer_out : FromPeer → List Slot → List ℕ → Out
 peer_out call l s =
@@ -109,14 +109,14 @@ made (Client call) st s reply full fits bytes past I = go (asked_by s) refl
     denied = names_denied st.bookkeeping.denied (Client call) s
 
     -- an act that is not a refusal says itself what state it leaves
-    same : (found : Found) (change : Change)
+    same : (found : Option ℕ) (change : Change)
         → table.Change call.time (slot_at st.slots) (slot_at (state_after (at_time call.time st) (done (at_time call.time st) found change)).slots)
         (without_repeats past (counts_by (Client call) s (outcome_of (done (at_time call.time st) found change)) (reply_after reply (done (at_time call.time st) found change))))
         → table.Change call.time (slot_at st.slots) (slot_at (state_after st (done (at_time call.time st) found change)).slots)
         (without_repeats past (counts_by (Client call) s (outcome_of (done (at_time call.time st) found change)) (reply_after reply (done (at_time call.time st) found change))))
-    same (At k) (keep out) c = c
-    same (At k) (write slot out) c = c
-    same Nothing change c = c
+    same (Some k) (keep out) c = c
+    same (Some k) (write slot out) c = c
+    same None change c = c
 
     go : (asked : Asked) → asked_by s ≡ asked → table.Change call.time (slot_at st.slots)
         (slot_at (state_after st (done (at_time call.time st) (on_asked denied call s st.slots asked).place (on_asked denied call s st.slots asked).change)).slots)
@@ -127,7 +127,7 @@ made (Peer call) st s reply full fits bytes past I = rw (peer_stays call st s) (
 
 -- what a call does to the table: nothing, where it is refused; else a change at its time, which what it counts as allows, by what was counted before
 pub data Moved (st : State) (a : Arrival) (x : Act) : Type 0 where
-  refused : (number : ℕ) → x ≡ refuse number → Moved st a x
+  refused : (refusal : Refusal) → x ≡ refuse refusal → Moved st a x
   changed : clock_of st ≤ time_of a.call → clock_of (state_after st x) ≡ time_of a.call
       → ((past : List Counted) → Accounts (time_of a.call) (slot_at st.slots) past
       → table.Change (time_of a.call) (slot_at st.slots) (slot_at (state_after st x).slots)
@@ -201,20 +201,20 @@ module _ (l : List Slot) (t x p R : ℕ) (id : TransactionId) (s : List ℕ) whe
       at k live port PermissionState.Lapsed p = shut k live port p.0 (inl (refl, p.1))
       at k live port PermissionState.Never p = shut k live port p.0 (inr (refl, p.1))
 
-      go : (f : Found) → find (in_slot (holds_port t R)) l ≡ f
+      go : (f : Option ℕ) → find (in_slot (holds_port t R)) l ≡ f
           → Verdict l t R (V4 x) (rules.outcome_of (unless_dropped (pick (not (has f)) true false) (permission_state t (V4 x) (at_or fresh_slot f l).permissions) (Sent (at_or fresh_slot f l))))
-      go Nothing e = nobodys refl (none_port t R l e)
-      go (At k) e =
+      go None e = nobodys refl (none_port t R l e)
+      go (Some k) e =
           let f = port_is t R (slot_at l k) (find_some (in_slot (holds_port t R)) l fresh_slot k e).0 in
           at k f.0 f.1 (permission_state t (V4 x) (slot_at l k).permissions) (lookup_says t (V4 x) (slot_at l k).permissions)
 
 -- in a call that is not refused
 module _ (st : State) (past : List Counted) (I : AccountsFor past st) (a : Arrival) (R x t : ℕ) (from : FromAddress a R (V4 x) t)
-    (nr : (number : ℕ) → outcome st a ≢ Refused number) where
+    (nr : (refusal : Refusal) → outcome st a ≢ Refused refusal) where
   pub reached : (clock_of st ≤ t) × Verdict st.slots t R (V4 x) (outcome st a)
   reached =
       rw from.2
-      (acted (λ (it : Act). ((n : ℕ) → outcome_of it ≢ Refused n) → (clock_of st ≤ t) × Verdict st.slots t R (V4 x) (outcome_of it)) (met st a) c a.datagram (length a.reply)
+      (acted (λ (it : Act). ((r : Refusal) → outcome_of it ≢ Refused r) → (clock_of st ≤ t) × Verdict st.slots t R (V4 x) (outcome_of it)) (met st a) c a.datagram (length a.reply)
       (λ number none. absurd (none number refl))
       (λ e none. let le : clock_of st ≤ t = (not_refused (clock_of st) st.slots a.datagram a.reply c e).not_before in
       (le, rw (peer_stays _ (met st a) a.datagram) (arrives st.slots t x from.0 R from.1 a.datagram)))
@@ -281,15 +281,15 @@ unfolding relay_from_peer peer_cause any unless_dropped
 ipv6_out t source id s true slot e = rw e
 ipv6_out t source id s false slot e = refl
 
-pub ipv6_dropped : (st : State) (a : Arrival) (R p q r w t : ℕ) → FromAddress a R (V6 p q r w) t → ((number : ℕ) → outcome st a ≢ Refused number) → outcome st a ≡ DroppedOther
+pub ipv6_dropped : (st : State) (a : Arrival) (R p q r w t : ℕ) → FromAddress a R (V6 p q r w) t → ((refusal : Refusal) → outcome st a ≢ Refused refusal) → outcome st a ≡ DroppedOther
 unfolding peer_out
 ipv6_dropped st a R p q r w t from nr =
     rw from.2
-    (acted (λ (it : Act). ((n : ℕ) → outcome_of it ≢ Refused n) → outcome_of it ≡ DroppedOther) (met st a) (Peer call) a.datagram (length a.reply) (λ number none. absurd (none number refl))
+    (acted (λ (it : Act). ((r : Refusal) → outcome_of it ≢ Refused r) → outcome_of it ≡ DroppedOther) (met st a) (Peer call) a.datagram (length a.reply) (λ number none. absurd (none number refl))
     (λ e none. rw (peer_stays call (met st a) a.datagram) (ipv6_out t call.source from.1 a.datagram (has found) (at_or fresh_slot found st.slots) refl)) (rw from.2 at nr))
   where
     call : FromPeer
     call = record { time = t; source = record { address = V6 p q r w; port = from.0 }; port = R; id = from.1 }
 
-    found : Found
+    found : Option ℕ
     found = find (in_slot (holds_port t R)) st.slots

@@ -1,14 +1,13 @@
 -- Calls, the events that they make, and what each event counts as.
-use Rattle.std.specs.Prelude.{ℕ, ◌+◌, ◌<◌, ◌^◌, Bool, ◌≡◌, List, [], ◌∷◌, map, eqb, length, take}
+use Rattle.std.specs.Prelude.{ℕ, ◌+◌, ◌<◌, ◌^◌, Bool, ◌≡◌, Option, Some, None, List, [], ◌∷◌, map, eqb, length, take}
 use Rattle.wire.specs.Wire.{num}
 use Rattle.choice.specs.Choice.{pick}
 use Rattle.address.specs.declared.Address.{Address}
 use Rattle.address.specs.declared.TransportAddress.{TransportAddress}
 use Rattle.stun.specs.declared.kinds.Method.{Method}
 use Rattle.stun.specs.declared.kinds.Method.TheVariants.{Allocate, Refresh, CreatePermission, ChannelBind}
-use Rattle.stun.specs.declared.values.AddressValue.{AddressValue}
 use Rattle.stun.specs.Kinds.{request_type}
-use Rattle.stun.specs.Values.{peers, first_peer}
+use Rattle.stun.specs.Values.{peer_or_nobody, peers, first_peer}
 use Rattle.rules.specs.declared.answer.Outcome.{Outcome}
 use Rattle.rules.specs.declared.answer.Outcome.TheVariants.{Refused, DroppedLapsed, DroppedNever, DroppedOther, ToClient, ToPeer}
 use Rattle.interface.specs.declared.incoming.Call.{Call}
@@ -18,7 +17,7 @@ use Rattle.state.specs.State.{State, meeting}
 use Rattle.state.specs.Outcomes.{Act, outcome_of, reply_after, state_after}
 use Rattle.state.specs.Step.{act, Stepped}
 use Rattle.client_reader.specs.declared.Message.{Message}
-use Rattle.client_reader.specs.declared.Message.TheVariants.{AllocateSuccess, RefreshSuccess, BareSuccess, Error, UnknownAttributes, DataIndication, ChannelData, Nothing}
+use Rattle.client_reader.specs.declared.Message.TheVariants.{AllocateSuccess, RefreshSuccess, BareSuccess, Error, UnknownAttributes, DataIndication, ChannelData}
 use Rattle.client_reader.specs.Fields.{Bytes, IdFits, AddressFits}
 use Rattle.client_reader.specs.Reader.{message_in}
 use Rattle.history.specs.Counted.{Counted, gave, kept, allowed, nothing, without_repeats}
@@ -74,8 +73,8 @@ Lived first (e ∷ rest) last = (after : State) × Happened first e after × Liv
 -- ---- What an event counts as: 'Requests count by what they bring and what comes back, never by a slot'
 
 -- 'CreatePermission is for every peer address it reads, ChannelBind for the first.'
-abbrev pub addresses_of : List AddressValue → List Address
-addresses_of l = map (λ v. v.peer.address) l
+abbrev pub addresses_of : List (Option TransportAddress) → List Address
+addresses_of l = map (λ v. (peer_or_nobody v).address) l
 
 -- whether a datagram is a request of the method, by the type in its header
 abbrev pub asks : Method → List ℕ → Bool
@@ -91,20 +90,24 @@ counts_as call s (BareSuccess Refresh id) = nothing
 counts_as call s (BareSuccess CreatePermission id) =
     pick (asks CreatePermission s) (allowed call.five_tuple (addresses_of (peers s)) (call.time + 300)) nothing
 counts_as call s (BareSuccess ChannelBind id) =
-    pick (asks ChannelBind s) (allowed call.five_tuple ((first_peer s).peer.address ∷ []) (call.time + 300)) nothing
+    pick (asks ChannelBind s) (allowed call.five_tuple ((peer_or_nobody (first_peer s)).address ∷ []) (call.time + 300)) nothing
 counts_as call s (Error method id code) = nothing
-counts_as call s (UnknownAttributes method id count) = nothing
+counts_as call s (UnknownAttributes method id types count) = nothing
 counts_as call s (DataIndication id peer port start len) = nothing
 counts_as call s (ChannelData number start len) = nothing
-counts_as call s Nothing = nothing
+
+-- where the clients' reader reads nothing, nothing counts
+abbrev pub read_as : FromClient → List ℕ → Option Message → Counted
+read_as call s None = nothing
+read_as call s (Some m) = counts_as call s m
 
 -- 'accepted is one whose outcome is a success response', read off the reply's bytes by the clients' reader
 abbrev pub counts_by : Call → List ℕ → Outcome → List ℕ → Counted
-counts_by (Client call) s (Refused number) reply = nothing
+counts_by (Client call) s (Refused refusal) reply = nothing
 counts_by (Client call) s DroppedLapsed reply = nothing
 counts_by (Client call) s DroppedNever reply = nothing
 counts_by (Client call) s DroppedOther reply = nothing
-counts_by (Client call) s (ToClient fiveTuple n) reply = counts_as call s (message_in (take n reply)).message
+counts_by (Client call) s (ToClient fiveTuple n) reply = read_as call s (message_in (take n reply))
 counts_by (Client call) s (ToPeer port peer start len) reply = nothing
 counts_by (Peer call) s outcome reply = nothing
 

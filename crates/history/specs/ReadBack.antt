@@ -1,13 +1,13 @@
 -- Demand 2's last words: every message that the relay writes is read back by its own reader as the fields that went in. Here are the fields
 -- that go in, from the call, its datagram, and the slots before and after the call.
-use Rattle.std.specs.Prelude.{ℕ, ◌-◌, ◌≡◌, List, [], ◌++◌, eqb, length, take, replicate}
+use Rattle.std.specs.Prelude.{ℕ, ◌-◌, ◌≡◌, Option, Some, None, IsSome, IfSome, List, [], ◌++◌, eqb, length, take, replicate}
 use Rattle.choice.specs.Choice.{pick}
 use Rattle.address.specs.declared.FiveTuple.{FiveTuple}
 use Rattle.stun.specs.declared.kinds.Method.{Method}
 use Rattle.stun.specs.declared.kinds.Method.TheVariants.{Allocate, Refresh, CreatePermission, ChannelBind}
 use Rattle.stun.specs.Message.{unknown_types}
 use Rattle.stun.specs.Values.{transaction_id_of}
-use Rattle.slot.specs.declared.Found.{Found}
+use Rattle.std.specs.Prelude.{Option}
 use Rattle.slot.specs.declared.Slot.{Slot}
 use Rattle.slot.specs.Search.{find, has, or_else, at_or}
 use Rattle.slot.specs.Slot.{fresh_channel, holds_port, leads_to}
@@ -28,8 +28,7 @@ use Rattle.decisions.specs.Decisions.{as_rules, own_place, slot_in, room_for}
 use Rattle.state.specs.Step.{Stepped}
 use Rattle.client_reader.specs.declared.Message.{Message}
 use Rattle.client_reader.specs.declared.Message.TheVariants.{AllocateSuccess, RefreshSuccess, BareSuccess, Error, UnknownAttributes, DataIndication, ChannelData}
-use Rattle.client_reader.specs.declared.ReadMessage.{ReadMessage}
-use Rattle.client_reader.specs.Fields.{data_of, plain, nothing, IsMessage, Exact}
+use Rattle.client_reader.specs.Fields.{data_of, Exact}
 use Rattle.client_reader.specs.Reader.{message_in}
 use Rattle.history.specs.Events.{Arrival}
 use Rattle.history.specs.Fits.{StateFits}
@@ -37,10 +36,10 @@ use Rattle.history.specs.Fits.{StateFits}
 -- ---- The slot that a call is about
 
 -- beside the caller's own: of Allocate 'the lowest such slot', one that isn't live; of a peer's datagram the live slot with the port
-abbrev pub free_place : FromClient → List Slot → Found
+abbrev pub free_place : FromClient → List Slot → Option ℕ
 free_place call slots = find (in_slot (lapsed call.time)) slots
 
-abbrev pub port_place : FromPeer → List Slot → Found
+abbrev pub port_place : FromPeer → List Slot → Option ℕ
 port_place call slots = find (in_slot (holds_port call.time call.port)) slots
 
 -- ---- Responses
@@ -68,19 +67,19 @@ success_for call s before after CreatePermission = BareSuccess CreatePermission 
 success_for call s before after ChannelBind = BareSuccess ChannelBind (transaction_id_of s)
 
 -- 'UNKNOWN-ATTRIBUTES 0x000A: the first 16 unknown types as met', in an array of 16
-abbrev pub unknown_for : Method → List ℕ → ReadMessage
+abbrev pub unknown_for : Method → List ℕ → Message
 unknown_for method s =
     let types = unknown_types s in
-    record { message = UnknownAttributes method (transaction_id_of s) (length types); types = types ++ replicate (16 - length types) 0 }
+    UnknownAttributes method (transaction_id_of s) (types ++ replicate (16 - length types) 0) (length types)
 
 -- 'An error carries ERROR-CODE', 'A 420 adds UNKNOWN-ATTRIBUTES'
-abbrev pub error_for : Method → List ℕ → ℕ → ReadMessage
-error_for method s code = pick (eqb code 420) (unknown_for method s) (plain (Error method (transaction_id_of s) code))
+abbrev pub error_for : Method → List ℕ → ℕ → Message
+error_for method s code = pick (eqb code 420) (unknown_for method s) (Error method (transaction_id_of s) code)
 
-abbrev pub response_for : (denied : List ℕ) → FromClient → List ℕ → (before after : List Slot) → Method → ReadMessage
+abbrev pub response_for : (denied : List ℕ) → FromClient → List ℕ → (before after : List Slot) → Method → Message
 response_for denied call s before after method =
     let code = code_for denied call s before method in
-    pick (eqb code 0) (plain (success_for call s before after method)) (error_for method s code)
+    pick (eqb code 0) (success_for call s before after method) (error_for method s code)
 
 -- ---- Data
 
@@ -96,19 +95,19 @@ relayed_for call len slot =
 -- ---- Every call
 
 -- what a client's datagram is answered with, by what it asks: a Send or ChannelData is not answered
-abbrev pub answer_for : (denied : List ℕ) → FromClient → List ℕ → (before after : List Slot) → Asked → ReadMessage
-answer_for denied call s before after Asked.Allocate = response_for denied call s before after Allocate
-answer_for denied call s before after Asked.Refresh = response_for denied call s before after Refresh
-answer_for denied call s before after Asked.CreatePermission = response_for denied call s before after CreatePermission
-answer_for denied call s before after Asked.ChannelBind = response_for denied call s before after ChannelBind
-answer_for denied call s before after Asked.Send = nothing
-answer_for denied call s before after Asked.ChannelData = nothing
-answer_for denied call s before after Asked.Nothing = nothing
+abbrev pub answer_for : (denied : List ℕ) → FromClient → List ℕ → (before after : List Slot) → Asked → Option Message
+answer_for denied call s before after Asked.Allocate = Some (response_for denied call s before after Allocate)
+answer_for denied call s before after Asked.Refresh = Some (response_for denied call s before after Refresh)
+answer_for denied call s before after Asked.CreatePermission = Some (response_for denied call s before after CreatePermission)
+answer_for denied call s before after Asked.ChannelBind = Some (response_for denied call s before after ChannelBind)
+answer_for denied call s before after Asked.Send = None
+answer_for denied call s before after Asked.ChannelData = None
+answer_for denied call s before after Asked.Nothing = None
 
 -- the fields that go into what is sent to a client
-abbrev pub fields_for : (denied : List ℕ) → Call → List ℕ → (before after : List Slot) → ReadMessage
+abbrev pub fields_for : (denied : List ℕ) → Call → List ℕ → (before after : List Slot) → Option Message
 fields_for denied (Client call) s before after = answer_for denied call s before after (asked_by s)
-fields_for denied (Peer call) s before after = plain (relayed_for call (length s) (slot_in after (port_place call before)))
+fields_for denied (Peer call) s before after = Some (relayed_for call (length s) (slot_in after (port_place call before)))
 
 -- and the data: a peer's datagram
 abbrev pub data_for : Call → List ℕ → List ℕ
@@ -117,14 +116,14 @@ data_for (Peer call) s = s
 
 -- ---- Read back
 
-pub record ReadAs (fields : ReadMessage) (payload message : List ℕ) : Type 0 where
+pub record ReadAs (fields : Option Message) (payload message : List ℕ) : Type 0 where
   -- the message is read as these fields, by what `read_message` promises, and no other fields make it
-  pub is_message : IsMessage fields
+  pub is_message : IsSome fields
   pub exact : Exact message fields
   -- the same reading as a function, by which demand 3 counts
   pub read : message_in message ≡ fields
   -- the data that is shown is this, byte for byte
-  pub shown : data_of fields.message message ≡ payload
+  pub shown : IfSome fields (λ m. data_of m message ≡ payload)
 
 -- Wherever an entry did what it promises (`Stepped`), in any state whose numbers are of their types (`slots_fit`: all are that a list of calls
 -- leaves), and the outcome is 'to the client, n bytes': what the first n bytes of the reply are read as

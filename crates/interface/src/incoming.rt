@@ -1,6 +1,6 @@
 // What a call brings.
 ghost use Rattle.std.specs.Prelude.{◌≡◌};
-ghost use Rattle.interface.specs.Refusals.{client_datagram, peer_datagram, time_of};
+ghost use Rattle.interface.specs.Refusals.{time_of};
 
 use address::{FiveTuple, TransactionId, TransportAddress};
 
@@ -30,34 +30,13 @@ pub enum Call {
     Peer(FromPeer),
 }
 
-pub fn call_of_client(time: u64, user: u32, start: u32, relay: u32, five_tuple: FiveTuple) -> Call
-    ensures { result ≡ client_datagram time user start relay five_tuple }
-{
-    Call::Client(FromClient {
-        time,
-        user,
-        start,
-        relay,
-        five_tuple,
-    })
-}
-
-pub fn call_of_peer(time: u64, source: TransportAddress, port: u16, id: TransactionId) -> Call
-    ensures { result ≡ peer_datagram time source port id }
-{
-    Call::Peer(FromPeer {
-        time,
-        source,
-        port,
-        id,
-    })
-}
-
-pub fn time_of(call: Call) -> u64
-    ensures { result ≡ time_of call }
-{
-    match call {
-        Call::Client(c) => c.time,
-        Call::Peer(p) => p.time,
+impl Call {
+    pub fn time(self) -> u64
+        ensures { result ≡ time_of self }
+    {
+        match self {
+            Call::Client(c) => c.time,
+            Call::Peer(p) => p.time,
+        }
     }
 }

@@ -1,8 +1,10 @@
 // The refusals, in document 01's order.
-ghost use Rattle.std.specs.Prelude.{◌≡◌};
-ghost use Rattle.interface.specs.Refusals.{lengths, refused_caller, refusal};
+ghost use Rattle.std.specs.Prelude.{◌≡◌, ℕ};
+ghost use Rattle.interface.specs.Refusals.{refused_caller, refusal};
+ghost use Rattle.interface.specs.Inner.{number_or, number_of};
 
-use crate::incoming::{Call, time_of};
+use crate::incoming::Call;
+use refusal::Refusal;
 
 // The lengths that refusals look at.
 #[derive(Clone, Copy)]
@@ -12,54 +14,46 @@ pub struct Lengths {
     pub reply: usize,
 }
 
-pub fn lengths_of(slots: usize, datagram: usize, reply: usize) -> Lengths
-    ensures { result ≡ lengths slots datagram reply }
-{
-    Lengths {
-        slots,
-        datagram,
-        reply,
-    }
-}
-
-// The refusals of client calls alone, and then the rest.
-fn refused_caller(call: Call, rest: u8) -> u8
-    ensures { result ≡ refused_caller call rest }
+// The refusals of client calls alone.
+fn refused_caller(call: Call) -> Result<(), Refusal>
+    ensures { (rest : ℕ) → number_or result rest ≡ refused_caller call rest }
 {
     match call {
         Call::Client(c) => {
             let five_tuple = c.five_tuple;
             if five_tuple.protocol != 17 {
-                return 7;
+                return Err(Refusal::NotUdp);
             }
             if 32 < c.user {
-                return 5;
+                return Err(Refusal::UnknownUser);
             }
-            rest
+            Ok(())
         }
-        Call::Peer(_) => rest,
+        Call::Peer(_) => Ok(()),
     }
 }
 
-// The number that a call is refused with, or 0.
-pub fn refusal(clock: u64, lengths: Lengths, call: Call) -> u8
-    ensures { result ≡ refusal clock lengths call }
+// Why a call is refused, or that it is not.
+#[tactic(auto, unfolding(crate::specs::Refusals::refusal))]
+pub fn refusal(clock: u64, lengths: Lengths, call: Call) -> Result<(), Refusal>
+    ensures { number_of result ≡ refusal clock lengths call }
 {
     if lengths.reply < 1536 {
-        return 3;
+        return Err(Refusal::ShortReply);
     }
     if lengths.slots != 64 {
-        return 6;
+        return Err(Refusal::NotSixtyFourSlots);
     }
     if 1500 < lengths.datagram {
-        return 4;
+        return Err(Refusal::LongDatagram);
     }
-    let time = time_of(call);
+    refused_caller(call)?;
+    let time = call.time();
     if 1099511627776 < time {
-        return refused_caller(call, 2);
+        return Err(Refusal::TimeTooLate);
     }
     if time < clock {
-        return refused_caller(call, 1);
+        return Err(Refusal::TimeBelowClock);
     }
-    refused_caller(call, 0)
+    Ok(())
 }

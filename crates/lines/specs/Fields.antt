@@ -1,13 +1,11 @@
 -- The fields of a line: 'Fields are parted by one tab and written as in the listing'. A definition that speaks of l speaks of what is left
 -- of a line, from the place where a field begins.
-use Rattle.std.specs.Prelude.{ℕ, zero, suc, ◌+◌, Bool, true, false, List, eqb, leb, ltb, length, take, drop}
+use Rattle.std.specs.Prelude.{ℕ, zero, suc, ◌+◌, Bool, false, List, eqb, leb, ltb, length, take, drop, Option, None, Some, unwrap_or}
 use Rattle.std.proofs.Math.Seq.{slice}
 use Rattle.text.specs.Scan.{index_of}
 use Rattle.choice.specs.Choice.{pick}
 use Rattle.address.specs.declared.Address.{Address}
 use Rattle.address.specs.declared.Address.TheVariants.{V4, V6}
-use Rattle.text.specs.declared.Parsed.{Parsed}
-use Rattle.text.specs.declared.Parsed.TheVariants.{Number, Nothing}
 use Rattle.text.specs.Text.{decimal_of, hex_word_of, is_hex}
 
 -- how long the first field is: up to the next tab, or to the end
@@ -30,20 +28,12 @@ rest (suc k) l = after (rest k l)
 -- ---- Numbers
 
 -- a number that was read, if it is at most this
-unfoldable pub at_most : ℕ → Parsed → Parsed
-at_most most (Number n) = pick (leb n most) (Number n) Nothing
-at_most most Nothing = Nothing
-
-unfoldable pub is_number : Parsed → Bool
-is_number (Number n) = true
-is_number Nothing = false
-
-unfoldable pub value_of : Parsed → ℕ
-value_of (Number n) = n
-value_of Nothing = 0
+unfoldable pub at_most : ℕ → Option ℕ → Option ℕ
+at_most most (Some n) = pick (leb n most) (Some n) None
+at_most most None = None
 
 -- the first field as a number that is at most this
-unfoldable pub number_up_to : ℕ → List ℕ → Parsed
+unfoldable pub number_up_to : ℕ → List ℕ → Option ℕ
 number_up_to most l = at_most most (decimal_of (take (field_end l) l))
 
 -- ---- Addresses: '8 or 32 lower hex digits'
@@ -54,7 +44,7 @@ is_address l = pick (eqb (field_end l) 32) (is_hex (take 32 l)) (pick (eqb (fiel
 
 -- the word of the eight digits from k on
 unfoldable pub word_at : ℕ → List ℕ → ℕ
-word_at k l = value_of (hex_word_of (slice k (k + 8) l))
+word_at k l = unwrap_or (hex_word_of (slice k (k + 8) l)) 0
 
 -- the address that it is
 unfoldable pub address_of : List ℕ → Address

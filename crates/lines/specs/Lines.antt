@@ -1,6 +1,6 @@
 -- The lines that the call program reads: '`Q` now, user, start, client address, client port, hex; `P` now, peer address, peer port, relay
 -- port, hex'.
-use Rattle.std.specs.Prelude.{ℕ, List, [], ◌∷◌, eqb, ltb, length}
+use Rattle.std.specs.Prelude.{ℕ, List, [], ◌∷◌, eqb, ltb, length, is_some, unwrap_or}
 use Rattle.choice.specs.Choice.{pick, both, lookup}
 use Rattle.address.specs.declared.Address.{Address}
 use Rattle.address.specs.declared.Address.TheVariants.{V4}
@@ -8,7 +8,7 @@ use Rattle.address.specs.declared.TransportAddress.{TransportAddress}
 use Rattle.text.specs.Text.{is_hex, hex_bytes_of}
 use Rattle.interface.specs.declared.incoming.Call.{Call}
 use Rattle.interface.specs.Refusals.{client_datagram, peer_datagram}
-use Rattle.lines.specs.Fields.{is_more, rest, is_number, value_of, number_up_to, is_address, address_of}
+use Rattle.lines.specs.Fields.{is_more, rest, number_up_to, is_address, address_of}
 
 -- a line is a call with its datagram, or of neither form
 pub data Line : Type 0 where
@@ -39,8 +39,8 @@ client_line l =
     let user = number_up_to 4294967295 (rest 1 l) in
     let start = number_up_to 4294967295 (rest 2 l) in
     let port = number_up_to 65535 (rest 4 l) in
-    pick (both (is_number time) (both (is_number user) (both (is_number start) (both (is_address (rest 3 l)) (both (is_number port) (is_more (rest 4 l)))))))
-    (with_datagram (call_from_client (value_of time) (value_of user) (value_of start) (address_of (rest 3 l)) (value_of port)) (rest 5 l))
+    pick (both (is_some time) (both (is_some user) (both (is_some start) (both (is_address (rest 3 l)) (both (is_some port) (is_more (rest 4 l)))))))
+    (with_datagram (call_from_client (unwrap_or time 0) (unwrap_or user 0) (unwrap_or start 0) (address_of (rest 3 l)) (unwrap_or port 0)) (rest 5 l))
     bad
 
 -- '`P` now, peer address, peer port, relay port, hex'
@@ -49,8 +49,8 @@ peer_line l =
     let time = number_up_to 18446744073709551615 l in
     let port = number_up_to 65535 (rest 2 l) in
     let relayPort = number_up_to 65535 (rest 3 l) in
-    pick (both (is_number time) (both (is_address (rest 1 l)) (both (is_number port) (both (is_number relayPort) (is_more (rest 3 l))))))
-    (with_datagram (call_from_peer (value_of time) (address_of (rest 1 l)) (value_of port) (value_of relayPort)) (rest 4 l))
+    pick (both (is_some time) (both (is_address (rest 1 l)) (both (is_some port) (both (is_some relayPort) (is_more (rest 3 l))))))
+    (with_datagram (call_from_peer (unwrap_or time 0) (address_of (rest 1 l)) (unwrap_or port 0) (unwrap_or relayPort 0)) (rest 4 l))
     bad
 
 -- 81 is `Q`, 80 is `P`, 9 a tab

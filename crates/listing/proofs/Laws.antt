@@ -11,7 +11,6 @@ use borrow.Author.Tests.{eq-eqb, ne_eqb, le-leb, lt-leb}
 use lib.ListN.{length, get_or, take, drop, set, length-append, length-drop, take-append-drop, drop_of_length-le}
 use lib.Seq.{take_all, take_at, drop_at, drop-drop, set_split, length-take-le}
 use borrow.Rule.Slice.PartMut.{mid_of, put_mid}
-use Rattle.choice.specs.Choice.{pick}
 use Rattle.wire.specs.Inner.{Wrote}
 use Rattle.text.specs.Text.{line_text, decimal}
 use Rattle.text.proofs.Laws.{length-decimal, size_le, decimal-length, address_length}
@@ -19,13 +18,14 @@ use Rattle.slot.specs.declared.Allocation.{Allocation}
 use Rattle.slot.specs.declared.Permission.{Permission}
 use Rattle.slot.specs.declared.Channel.{Channel}
 use Rattle.slot.specs.declared.Slot.{Slot}
-use Rattle.slot.specs.Slot.{live_allocation, live_permission, live_channel, fresh_slot}
-use Rattle.table.specs.Table.{slot_at}
-use Rattle.listing.specs.declared.Listed.{Listed}
-use Rattle.listing.specs.declared.Listed.TheVariants.{Refused, Length}
-use Rattle.listing.specs.Listing.{allocation_line, permission_line, channel_line, permission_lines, channel_lines, slot_lines, listing, Lists}
+use Rattle.slot.specs.Slot.{live_allocation, live_permission, live_channel}
+use Rattle.std.proofs.lemmas.List.Sums.{sum_by-cons}
+use Rattle.std.specs.Prelude.{sum_by, Result, Ok, Err}
+use Rattle.refusal.specs.declared.Refusal.{Refusal}
+use Rattle.refusal.specs.declared.Refusal.TheVariants.{NotSixtyFourSlots, ShortOutput}
+use Rattle.listing.specs.Listing.{allocation_line, permission_text, channel_text, permission_line, channel_line, permission_lines, channel_lines, slot_lines, listing, Lists}
 use Rattle.listing.specs.Texts.{texts}
-use Rattle.listing.specs.Inner.{Put}
+use Rattle.listing.specs.Inner.{Put, entries_text}
 
 -- ---- a text at a place
 
@@ -90,6 +90,11 @@ put_as {s} {t} {d} {l} {place} {next} e p = subst (λ (x : List ℕ). Put x plac
 
 -- ---- texts of the entries of a list, one by one
 
+pub texts_size : {A : Type 0} (text : A → List ℕ) (k : ℕ) (l : List A) → sum_by (λ x. length (text x)) l ≡ length (texts (λ (i : ℕ). text) k l)
+unfolding texts
+texts_size text k [] = refl
+texts_size text k (x ∷ l) = rw (sum_by-cons, length-append) (ap (λ (n : ℕ). length (text x) + n) (texts_size text (suc k) l))
+
 module _ {A : Type 0} (f : ℕ → A → List ℕ) where
   texts_more : (k : ℕ) (l : List A) (i : ℕ) (d : A) → i < length l → texts f k (take (suc i) l) ≡ texts f k (take i l) ++ f (k + i) (get_or l i d)
   unfolding texts
@@ -124,20 +129,20 @@ module _ {A : Type 0} {f : ℕ → A → List ℕ} where
   sizing_start most l = record { within = omega arith; is = refl; low = omega arith }
 
   module _ {l : List A} {place : ℕ} {d out : List ℕ} {next i : ℕ} (r : Putting f l place d out next i) where
-    pub putting_fits : (x e : A) → i < length l → x ≡ get_or l i e → place + length (texts f 0 l) ≤ length d → next + length (f i x) ≤ length out
-    putting_fits x e h g m = rw g (omega (arith, r.is.then, put_length r.is, rw zero-add at (texts_fit f 0 l i e h)))
+    pub putting_fits : {x : A} (e : A) → i < length l → x ≡ get_or l i e → place + length (texts f 0 l) ≤ length d → next + length (f i x) ≤ length out
+    putting_fits {x} e h g m = rw g (omega (arith, r.is.then, put_length r.is, rw zero-add at (texts_fit f 0 l i e h)))
 
-    pub putting_next : {text after : List ℕ} {then : ℕ} (x e : A) → i < length l → x ≡ get_or l i e → Put text next out after then → text ≡ f i x
+    pub putting_next : {after : List ℕ} {then : ℕ} {x : A} (e : A) → i < length l → x ≡ get_or l i e → Put (f i x) next out after then
         → Putting f l place d after then (i + 1)
-    putting_next x e h g p q =
-        record { within = omega arith; is = rw (add-one, texts_more f 0 l i e h, zero-add, ← g, ← q) (put_then r.is p) }
+    putting_next {x = x} e h g p =
+        record { within = omega arith; is = rw (add-one, texts_more f 0 l i e h, zero-add, ← g) (put_then r.is p) }
 
     pub putting_end : length l ≤ i → Put (texts f 0 l) place d out next
     putting_end h = rw (take_all i l h) at r.is
 
   module _ {most : ℕ} {l : List A} {size i : ℕ} (r : Sizing f most l size i) where
-    pub sizing_next : {n : ℕ} (x e : A) → i < length l → x ≡ get_or l i e → n ≡ length (f i x) → n ≤ most → Sizing f most l (size + n) (i + 1)
-    sizing_next {n} x e h g q b = record {
+    pub sizing_next : {n : ℕ} {x : A} (e : A) → i < length l → x ≡ get_or l i e → n ≡ length (f i x) → n ≤ most → Sizing f most l (size + n) (i + 1)
+    sizing_next {n} {x} e h g q b = record {
       within = omega arith;
       is = rw (add-one, texts_more f 0 l i e h, zero-add, ← g, length-append, ← q) (ap (λ (m : ℕ). m + n) r.is);
       low = rw (add-one, suc-mul) (omega (arith, r.low));
@@ -149,16 +154,23 @@ module _ {A : Type 0} {f : ℕ → A → List ℕ} where
 -- ---- the lines of a slot
 
 pub lines_live : (clock k : ℕ) (slot : Slot) {live : Bool} → live ≡ live_allocation clock slot.allocation → live ≡ true
-    → slot_lines clock k slot ≡ allocation_line k slot.allocation ++ permission_lines clock k slot.permissions ++ channel_lines clock k slot.channels
-unfolding slot_lines
+    → slot_lines clock k slot
+    ≡ allocation_line k slot.allocation
+    ++ entries_text live_permission permission_text clock k slot.permissions
+    ++ entries_text live_channel channel_text clock k slot.channels
+unfolding slot_lines permission_lines channel_lines permission_line channel_line entries_text
 lines_live clock k slot e t = rw (sym e ∙ t)
 
 pub lines_lapsed : (clock k : ℕ) (slot : Slot) {live : Bool} → live ≡ live_allocation clock slot.allocation → live ≡ false → slot_lines clock k slot ≡ []
 unfolding slot_lines
 lines_lapsed clock k slot e t = rw (sym e ∙ t)
 
-pub sizes_add : (s t u : List ℕ) {a b c : ℕ} → a ≡ length s → b ≡ length t → c ≡ length u → a + b + c ≡ length (s ++ t ++ u)
-sizes_add s t u e f g = rw (length-append, length-append) (omega arith)
+pub lines_size : (clock k : ℕ) (slot : Slot) {live : Bool} → live ≡ live_allocation clock slot.allocation → live ≡ true
+    → length (slot_lines clock k slot)
+    ≡ length (allocation_line k slot.allocation)
+    + length (entries_text live_permission permission_text clock k slot.permissions)
+    + length (entries_text live_channel channel_text clock k slot.channels)
+lines_size clock k slot e t = rw (lines_live clock k slot e t, length-append, length-append) (omega arith)
 
 -- ---- how long a line can be, where the slot's number is below 64 and every field fits its type
 
@@ -171,10 +183,6 @@ number_most k h = decimal_most 1 k (lt_of_lt_of_le h (lit≤ tt))
 word_most : (n : ℕ) → n < 2 ^ 16 → length (decimal n) ≤ 5
 word_most n h = decimal_most 4 n (lt_of_lt_of_le h (lit≤ tt))
 
-picked_most : (b : Bool) (l : List ℕ) {m : ℕ} → length l ≤ m → length (pick b l []) ≤ m
-picked_most true l h = h
-picked_most false l h = omega arith
-
 pub allocation_most : (k : ℕ) (a : Allocation) → k < 64 → a.user < 2 ^ 8 → a.five_tuple.client.port < 2 ^ 16 → a.five_tuple.server.port < 2 ^ 16 → a.port < 2 ^ 16 → a.expiry < 2 ^ 64
     → length (allocation_line k a) ≤ 114
 unfolding allocation_line line_text
@@ -182,17 +190,16 @@ allocation_most k a hk hu hc hs hp he =
     rw (length-append, length-append, length-append, length-append, length-append, length-append, length-append, length-append, length-append)
     (omega (arith, number_most k hk, decimal_most 2 a.user (lt_of_lt_of_le hu (lit≤ tt)), address_length a.five_tuple.client.address, word_most _ hc, address_length a.five_tuple.server.address, word_most _ hs, word_most _ hp, decimal-length _ he))
 
-pub permission_most : (clock k : ℕ) (p : Permission) → k < 64 → p.expiry < 2 ^ 64 → length (permission_line clock k p) ≤ 59
-unfolding permission_line line_text
-permission_most clock k p hk he =
-    picked_most (live_permission clock p) _
-    (rw (length-append, length-append, length-append, length-append) (omega (arith, number_most k hk, address_length p.address, decimal-length _ he)))
+pub permission_most : (k : ℕ) (p : Permission) → k < 64 → p.expiry < 2 ^ 64 → length (permission_text k p) ≤ 59
+unfolding permission_text line_text
+permission_most k p hk he =
+    rw (length-append, length-append, length-append, length-append) (omega (arith, number_most k hk, address_length p.address, decimal-length _ he))
 
-pub channel_most : (clock k : ℕ) (c : Channel) → k < 64 → c.number < 2 ^ 16 → c.peer.port < 2 ^ 16 → c.expiry < 2 ^ 64 → length (channel_line clock k c) ≤ 71
-unfolding channel_line line_text
-channel_most clock k c hk hn hp he =
-    picked_most (live_channel clock c) _
-    (rw (length-append, length-append, length-append, length-append, length-append, length-append) (omega (arith, number_most k hk, word_most _ hn, address_length c.peer.address, word_most _ hp, decimal-length _ he)))
+pub channel_most : (k : ℕ) (c : Channel) → k < 64 → c.number < 2 ^ 16 → c.peer.port < 2 ^ 16 → c.expiry < 2 ^ 64 → length (channel_text k c) ≤ 71
+unfolding channel_text line_text
+channel_most k c hk hn hp he =
+    rw (length-append, length-append, length-append, length-append, length-append, length-append)
+    (omega (arith, number_most k hk, word_most _ hn, address_length c.peer.address, word_most _ hp, decimal-length _ he))
 
 -- ---- the walks over the slots
 
@@ -208,9 +215,9 @@ pub listing_start : (clock : ℕ) (slots : List Slot) (d : List ℕ) → Putting
 listing_start clock slots d = putting_start slots 0 d (omega arith)
 
 module _ (clock : ℕ) {slots : List Slot} {d out : List ℕ} {place i : ℕ} (r : Putting (slot_lines clock) slots 0 d out place i) where
-  pub lines_fit : (slot : Slot) → i < length slots → slot ≡ slot_at slots i → length (listing clock slots) ≤ length d → place + length (slot_lines clock i slot) ≤ length out
+  pub lines_fit : {slot : Slot} (e : Slot) → i < length slots → slot ≡ get_or slots i e → length (listing clock slots) ≤ length d → place + length (slot_lines clock i slot) ≤ length out
   unfolding listing
-  lines_fit slot h e b = putting_fits r slot fresh_slot h e (rw zero-add b)
+  lines_fit e h g b = putting_fits r e h g (rw zero-add b)
 
   pub listing_put : length slots ≤ i → out ≡ listing clock slots ++ drop (length (listing clock slots)) d
   unfolding listing
@@ -219,25 +226,25 @@ module _ (clock : ℕ) {slots : List Slot} {d out : List ℕ} {place i : ℕ} (r
 -- ---- what a listing answers
 
 module _ {clock : ℕ} {slots : List Slot} {d : List ℕ} where
-  pub lists_count : (length slots ≡ 64 → ⊥) → Lists clock slots d d (Refused 6)
+  pub lists_count : (length slots ≡ 64 → ⊥) → Lists clock slots d d (Err NotSixtyFourSlots)
   lists_count n = record { answers = rw (ne_eqb (length slots) 64 n); output = rw (ne_eqb (length slots) 64 n); most = λ e. absurd (n e) }
 
   module _ (e : length slots ≡ 64) {size : ℕ} (q : (size ≡ length (listing clock slots)) × (size ≤ 73856)) where
-    pub lists_short : length d < size → Lists clock slots d d (Refused 8)
+    pub lists_short : length d < size → Lists clock slots d d (Err ShortOutput)
     lists_short h =
         let f = eq-eqb (length slots) 64 e in
         let g : leb (length (listing clock slots)) (length d) ≡ false = lt-leb (length (listing clock slots)) (length d) (rw (← q.0) h) in
         record { answers = rw (f, g); output = rw (f, g); most = λ _. rw (← q.0) q.1 }
 
-    pub lists_whole : {l : List ℕ} → size ≤ length d → l ≡ listing clock slots ++ drop (length (listing clock slots)) d → Lists clock slots d l (Length size)
+    pub lists_whole : {l : List ℕ} → size ≤ length d → l ≡ listing clock slots ++ drop (length (listing clock slots)) d → Lists clock slots d l (Ok size)
     lists_whole {l} h p =
         let f = eq-eqb (length slots) 64 e in
         let g : leb (length (listing clock slots)) (length d) ≡ true = le-leb (length (listing clock slots)) (length d) (rw (← q.0) h) in
         record { answers = rw (f, g, q.0); output = rw (f, g) p; most = λ _. rw (← q.0) q.1 }
 
   -- every listing of 64 slots fits into 73,856 bytes: it is never refused for room there
-  pub listing_fits : {l : List ℕ} {answer : Listed} → Lists clock slots d l answer → length slots ≡ 64 → 73856 ≤ length d
-      → (answer ≡ Length (length (listing clock slots))) × (l ≡ listing clock slots ++ drop (length (listing clock slots)) d)
+  pub listing_fits : {l : List ℕ} {answer : Result ℕ Refusal} → Lists clock slots d l answer → length slots ≡ 64 → 73856 ≤ length d
+      → (answer ≡ Ok (length (listing clock slots))) × (l ≡ listing clock slots ++ drop (length (listing clock slots)) d)
   listing_fits p e h =
       let f = eq-eqb (length slots) 64 e in
       let g : leb (length (listing clock slots)) (length d) ≡ true = le-leb (length (listing clock slots)) (length d) (omega (arith, p.most e)) in

@@ -1,9 +1,11 @@
-// The lines of a listing as their fields, by value. A line has at most ten; those that are missing are `Nothing`.
-ghost use Rattle.std.specs.Prelude.{◌≡◌};
+// What a listing has a line of: an allocation, a permission or a channel, each with the fields of its line.
+ghost use Rattle.std.specs.Prelude.{ℕ, ◌≡◌, ◌<◌, ◌≤◌, Bool, List, length};
+ghost use Rattle.slot.specs.Slot.{live_allocation, live_permission, live_channel};
 ghost use Rattle.listing.specs.Inner.{fields_text};
-ghost use Rattle.listing.specs.Listing.{allocation_line, permission_line, channel_line};
+ghost use Rattle.listing.specs.Listing.{allocation_line, permission_text, channel_text};
 
 use address::Address;
+use slot::allocations::allocation_is_live;
 use slot::channels::channel_is_live;
 use slot::permissions::permission_is_live;
 use slot::{Allocation, Channel, Permission};
@@ -16,62 +18,98 @@ pub enum Field {
     Decimal(u64),
     // A tab, and an address.
     Hex(Address),
-    Nothing,
 }
 
-pub(crate) fn allocation_fields(k: usize, allocation: Allocation) -> [Field; 10]
-    ensures { fields_text result ≡ allocation_line k allocation }
-{
-    let five_tuple = allocation.five_tuple;
-    let client = five_tuple.client;
-    let server = five_tuple.server;
-    let client_address = client.address;
-    let server_address = server.address;
-    [
-        Field::Byte(65),
-        Field::Decimal(k as u64),
-        Field::Decimal(allocation.user as u64),
-        Field::Hex(client_address),
-        Field::Decimal(client.port as u64),
-        Field::Hex(server_address),
-        Field::Decimal(server.port as u64),
-        Field::Decimal(allocation.port as u64),
-        Field::Decimal(allocation.expiry),
-        Field::Byte(10),
-    ]
+// What has a line of N fields where it is live. The number of a slot has at most two digits, a user three, a port and a channel's number
+// five, an expiry twenty, and an address has at most 32.
+pub(crate) trait Entry<const N: usize>: Copy {
+    ghost live: { ℕ → Self → Bool };
+
+    // Its line in the slot with that number.
+    ghost line: { ℕ → Self → List ℕ };
+
+    // How long its line is at most.
+    ghost most: { ℕ };
+
+    fn is_live(self, clock: u64) -> bool
+        ensures { result ≡ live clock self };
+
+    fn fields(self, k: usize) -> [Field; N]
+        ensures is { fields_text result ≡ line k self }
+        ensures most { k < 64 → length (line k self) ≤ most };
 }
 
-pub(crate) fn permission_fields(clock: u64, k: usize, permission: Permission) -> [Field; 10]
-    ensures { fields_text result ≡ permission_line clock k permission }
-{
-    let mut fields = [Field::Nothing; 10];
-    if permission_is_live(clock, permission) {
-        let address = permission.address;
-        fields[0] = Field::Byte(80);
-        fields[1] = Field::Decimal(k as u64);
-        fields[2] = Field::Hex(address);
-        fields[3] = Field::Decimal(permission.expiry);
-        fields[4] = Field::Byte(10);
-        return fields;
+impl Entry<10> for Allocation {
+    ghost live = { live_allocation };
+
+    ghost line = { allocation_line };
+
+    ghost most = { 114 };
+
+    fn is_live(self, clock: u64) -> bool {
+        allocation_is_live(clock, self)
     }
-    fields
+
+    fn fields(self, k: usize) -> [Field; 10] {
+        let client = self.five_tuple.client;
+        let server = self.five_tuple.server;
+        [
+            Field::Byte(b'A'),
+            Field::Decimal(k as u64),
+            Field::Decimal(self.user as u64),
+            Field::Hex(client.address),
+            Field::Decimal(client.port as u64),
+            Field::Hex(server.address),
+            Field::Decimal(server.port as u64),
+            Field::Decimal(self.port as u64),
+            Field::Decimal(self.expiry),
+            Field::Byte(b'\n'),
+        ]
+    }
 }
 
-pub(crate) fn channel_fields(clock: u64, k: usize, channel: Channel) -> [Field; 10]
-    ensures { fields_text result ≡ channel_line clock k channel }
-{
-    let mut fields = [Field::Nothing; 10];
-    if channel_is_live(clock, channel) {
-        let peer = channel.peer;
-        let address = peer.address;
-        fields[0] = Field::Byte(67);
-        fields[1] = Field::Decimal(k as u64);
-        fields[2] = Field::Decimal(channel.number as u64);
-        fields[3] = Field::Hex(address);
-        fields[4] = Field::Decimal(peer.port as u64);
-        fields[5] = Field::Decimal(channel.expiry);
-        fields[6] = Field::Byte(10);
-        return fields;
+impl Entry<5> for Permission {
+    ghost live = { live_permission };
+
+    ghost line = { permission_text };
+
+    ghost most = { 59 };
+
+    fn is_live(self, clock: u64) -> bool {
+        permission_is_live(clock, self)
     }
-    fields
+
+    fn fields(self, k: usize) -> [Field; 5] {
+        [
+            Field::Byte(b'P'),
+            Field::Decimal(k as u64),
+            Field::Hex(self.address),
+            Field::Decimal(self.expiry),
+            Field::Byte(b'\n'),
+        ]
+    }
+}
+
+impl Entry<7> for Channel {
+    ghost live = { live_channel };
+
+    ghost line = { channel_text };
+
+    ghost most = { 71 };
+
+    fn is_live(self, clock: u64) -> bool {
+        channel_is_live(clock, self)
+    }
+
+    fn fields(self, k: usize) -> [Field; 7] {
+        [
+            Field::Byte(b'C'),
+            Field::Decimal(k as u64),
+            Field::Decimal(self.number as u64),
+            Field::Hex(self.peer.address),
+            Field::Decimal(self.peer.port as u64),
+            Field::Decimal(self.expiry),
+            Field::Byte(b'\n'),
+        ]
+    }
 }

@@ -1,14 +1,13 @@
-// How long the lines of a listing are. The number of a slot has at most two digits, a user three, a port and a channel's number five, an
-// expiry twenty, and an address has at most 32.
-ghost use Rattle.std.specs.Prelude.{◌≡◌, ◌<◌, ◌≤◌, length};
-ghost use Rattle.listing.specs.Inner.{field_text, fields_text};
-ghost use Rattle.listing.specs.Listing.{allocation_line, permission_line, channel_line, permission_lines, channel_lines, slot_lines};
+// How long the lines of a listing are.
+ghost use Rattle.std.specs.Prelude.{◌≡◌, ◌*◌, ◌<◌, ◌≤◌, length};
+ghost use Rattle.listing.specs.Inner.{field_text, fields_text, entry_text, entries_text};
+ghost use Rattle.listing.specs.Listing.{slot_lines};
 
-use crate::fields::{Field, allocation_fields, channel_fields, permission_fields};
-use slot::allocations::allocation_is_live;
-use slot::{Allocation, Channel, Permission, Slot};
+use crate::fields::{Entry, Field};
+use slot::Slot;
 use text::{address_size, decimal_size};
 
+#[tactic(auto, unfolding(crate::specs::Inner::field_text))]
 fn field_size(field: Field) -> usize
     ensures { (result ≡ length (field_text field)) × (result ≤ 33) }
 {
@@ -16,85 +15,46 @@ fn field_size(field: Field) -> usize
         Field::Byte(_) => 1,
         Field::Decimal(n) => decimal_size(n) + 1,
         Field::Hex(address) => address_size(address) + 1,
-        Field::Nothing => 0,
     }
 }
 
-fn line_size(fields: [Field; 10]) -> usize
-    ensures { (result ≡ length (fields_text fields)) × (result ≤ 330) }
+fn line_size(fields: &[Field]) -> usize
+    requires { length fields.now ≤ 10 }
+    ensures { result ≡ length (fields_text fields.now) }
 {
-    let mut size: usize = 0;
-    let mut i: usize = 0;
-    while i < 10 {
-        let field = fields[i];
-        size = size + field_size(field);
-        i += 1;
-    }
-    size
+    fields.iter().map(|field| field_size(*field)).sum()
 }
 
-fn allocation_size(k: usize, allocation: Allocation) -> usize
-    requires { k < 64 }
-    ensures { (result ≡ length (allocation_line k allocation)) × (result ≤ 114) }
+// The size of an entry's line, or 0 where it isn't live.
+fn entry_size<const N: usize, E: Entry<N>>(clock: u64, k: usize, entry: &E) -> usize
+    requires few { (k < 64) × (N ≤ 10) }
+    ensures { (result ≡ length (entry_text E.live E.line clock k entry.now)) × (result ≤ E.most) }
 {
-    let fields = allocation_fields(k, allocation);
-    line_size(fields)
-}
-
-fn permission_size(clock: u64, k: usize, permission: Permission) -> usize
-    requires { k < 64 }
-    ensures { (result ≡ length (permission_line clock k permission)) × (result ≤ 59) }
-{
-    let fields = permission_fields(clock, k, permission);
-    line_size(fields)
-}
-
-fn channel_size(clock: u64, k: usize, channel: Channel) -> usize
-    requires { k < 64 }
-    ensures { (result ≡ length (channel_line clock k channel)) × (result ≤ 71) }
-{
-    let fields = channel_fields(clock, k, channel);
-    line_size(fields)
-}
-
-fn permissions_size(clock: u64, k: usize, permissions: [Permission; 8]) -> usize
-    requires { k < 64 }
-    ensures { (result ≡ length (permission_lines clock k permissions)) × (result ≤ 472) }
-{
-    let mut size: usize = 0;
-    let mut i: usize = 0;
-    while i < 8 {
-        let permission = permissions[i];
-        size = size + permission_size(clock, k, permission);
-        i += 1;
-    }
-    size
-}
-
-fn channels_size(clock: u64, k: usize, channels: [Channel; 8]) -> usize
-    requires { k < 64 }
-    ensures { (result ≡ length (channel_lines clock k channels)) × (result ≤ 568) }
-{
-    let mut size: usize = 0;
-    let mut i: usize = 0;
-    while i < 8 {
-        let channel = channels[i];
-        size = size + channel_size(clock, k, channel);
-        i += 1;
-    }
-    size
-}
-
-pub(crate) fn slot_size(clock: u64, k: usize, slot: Slot) -> usize
-    requires { k < 64 }
-    ensures { (result ≡ length (slot_lines clock k slot)) × (result ≤ 1154) }
-{
-    let allocation = slot.allocation;
-    if !allocation_is_live(clock, allocation) {
+    if !entry.is_live(clock) {
         return 0;
     }
-    let first = allocation_size(k, allocation);
-    let permissions = slot.permissions;
-    let channels = slot.channels;
-    first + permissions_size(clock, k, permissions) + channels_size(clock, k, channels)
+    line_size(&entry.fields(k))
+}
+
+fn entries_size<const N: usize, E: Entry<N>>(clock: u64, k: usize, entries: &[E]) -> usize
+    requires few { (k < 64) × (N ≤ 10) }
+    requires fits { (length entries.now ≤ 8) × (E.most ≤ 330) }
+    ensures { (result ≡ length (entries_text E.live E.line clock k entries.now)) × (result ≤ 8 * E.most) }
+{
+    let mut size = 0;
+    for entry in entries {
+        size += entry_size(clock, k, entry);
+    }
+    size
+}
+
+pub(crate) fn slot_size(clock: u64, k: usize, slot: &Slot) -> usize
+    requires { k < 64 }
+    ensures { (result ≡ length (slot_lines clock k slot.now)) × (result ≤ 1154) }
+{
+    if !slot.allocation.is_live(clock) {
+        return 0;
+    }
+    let first = line_size(&slot.allocation.fields(k));
+    first + entries_size(clock, k, &slot.permissions) + entries_size(clock, k, &slot.channels)
 }

@@ -2,7 +2,7 @@
 // written, and writes its value's numbers at their places in that part; each message says its exact bytes (specs/Messages.antt) and how many, and leaves the rest of the reply as it was.
 #![tactic(auto)]
 
-ghost use Rattle.std.specs.Prelude.{◌≡◌, ◌≤◌, ◌*◌, length, take};
+ghost use Rattle.std.specs.Prelude.{◌≡◌, ◌≤◌, ◌*◌, length};
 ghost use Rattle.address.specs.declared.TransactionId.{TransactionId};
 ghost use Rattle.address.specs.declared.Address.TheVariants.{V4, V6};
 ghost use Rattle.wire.specs.Inner.{Wrote};
@@ -11,9 +11,7 @@ ghost use Rattle.messages.specs.Inner.{attribute_head, address_head, address_siz
 
 use address::{Address, TransactionId, TransportAddress};
 use stun::kinds::{AttributeKind, MessageKind, Method};
-use wire::{
-    put_bytes, put_u8_at, put_u16, put_u16_at, put_u32, put_u32_at, put_zeros, xor_u16, xor_u32,
-};
+use wire::{Number, put_at, put_bytes, put_zeros};
 
 // ---- The parts of a message
 
@@ -21,18 +19,18 @@ fn put_transaction_id(out: &mut [u8], id: TransactionId)
     requires { 12 ≤ length out.old }
     ensures { Wrote (transaction_id_bytes id) out.old out.new }
 {
-    put_u32(out, id.high);
-    put_u32_at(out, 4, id.middle);
-    put_u32_at(out, 8, id.low);
+    id.high.put(out);
+    put_at(out, 4, id.middle);
+    put_at(out, 8, id.low);
 }
 
 fn put_header(out: &mut [u8], number: u16, len: u16, id: TransactionId)
     requires { 20 ≤ length out.old }
     ensures { Wrote (header_bytes number len id) out.old out.new }
 {
-    put_u16(out, number);
-    put_u16_at(out, 2, len);
-    put_u32_at(out, 4, stun::COOKIE);
+    number.put(out);
+    put_at(out, 2, len);
+    put_at(out, 4, stun::COOKIE);
     put_transaction_id(&mut out[8..], id);
 }
 
@@ -41,8 +39,8 @@ fn put_attribute_head(out: &mut [u8], number: u16, len: u16)
     requires { 4 ≤ length out.old }
     ensures { Wrote (attribute_head number len) out.old out.new }
 {
-    put_u16(out, number);
-    put_u16_at(out, 2, len);
+    number.put(out);
+    put_at(out, 2, len);
 }
 
 // How many zeros follow a value of len bytes.
@@ -71,14 +69,12 @@ fn address_size(address: Address) -> usize
     }
 }
 
-// The first count of types.
-fn put_types(out: &mut [u8], types: [u16; 16], count: usize)
-    requires { (count ≤ 16) × (count * 2 ≤ length out.old) }
-    ensures { Wrote (types_bytes (take count types)) out.old out.new }
+fn put_types(out: &mut [u8], types: &[u16])
+    requires { length types.now * 2 ≤ length out.old }
+    ensures { Wrote (types_bytes types.now) out.old out.new }
 {
-    for i in 0..count {
-        let at = i * 2;
-        put_u16_at(out, at, types[i]);
+    for (i, t) in types.iter().enumerate() {
+        put_at(out, i * 2, *t);
     }
 }
 
@@ -90,8 +86,8 @@ fn put_address_head(out: &mut [u8], number: u16, len: u16, family: u16, port: u1
     ensures { Wrote (address_head number len family port) out.old out.new }
 {
     put_attribute_head(out, number, len);
-    put_u16_at(out, 4, family);
-    put_u16_at(out, 6, xor_u16(port, stun::COOKIE_HIGH));
+    put_at(out, 4, family);
+    put_at(out, 6, port ^ stun::COOKIE_HIGH);
 }
 
 // An IPv4 address is not XORed with the transaction id: it may be any.
@@ -100,47 +96,25 @@ fn put_v4_address(out: &mut [u8], number: u16, address: u32, port: u16)
     ensures { (id : TransactionId) → Wrote (address_attribute number id (V4 address) port) out.old out.new }
 {
     put_address_head(out, number, 8, 1, port);
-    put_u32_at(out, 8, xor_u32(address, stun::COOKIE));
-}
-
-fn put_v6_address(
-    out: &mut [u8],
-    number: u16,
-    id: TransactionId,
-    a: u32,
-    b: u32,
-    c: u32,
-    d: u32,
-    port: u16,
-)
-    requires { 24 ≤ length out.old }
-    ensures { Wrote (address_attribute number id (V6 a b c d) port) out.old out.new }
-{
-    put_address_head(out, number, 20, 2, port);
-    put_u32_at(out, 8, xor_u32(a, stun::COOKIE));
-    put_u32_at(out, 12, xor_u32(b, id.high));
-    put_u32_at(out, 16, xor_u32(c, id.middle));
-    put_u32_at(out, 20, xor_u32(d, id.low));
+    put_at(out, 8, address ^ stun::COOKIE);
 }
 
 // XOR-RELAYED-ADDRESS, XOR-MAPPED-ADDRESS or XOR-PEER-ADDRESS, by the number; how many bytes it has.
-pub fn put_address(
-    out: &mut [u8],
-    number: u16,
-    id: TransactionId,
-    address: Address,
-    port: u16,
-) -> usize
+pub fn put_address(out: &mut [u8], number: u16, id: TransactionId, peer: TransportAddress) -> usize
     requires { 24 ≤ length out.old }
-    ensures { Wrote (address_attribute number id address port) out.old out.new × (result ≡ address_size address) }
+    ensures { Wrote (address_attribute number id peer.address peer.port) out.old out.new × (result ≡ address_size peer.address) }
 {
-    match address {
+    match peer.address {
         Address::V4(a) => {
-            put_v4_address(out, number, a, port);
+            put_v4_address(out, number, a, peer.port);
             12
         }
         Address::V6(a, b, c, d) => {
-            put_v6_address(out, number, id, a, b, c, d, port);
+            put_address_head(out, number, 20, 2, peer.port);
+            put_at(out, 8, a ^ stun::COOKIE);
+            put_at(out, 12, b ^ id.high);
+            put_at(out, 16, c ^ id.middle);
+            put_at(out, 20, d ^ id.low);
             24
         }
     }
@@ -151,7 +125,7 @@ pub(crate) fn put_lifetime(out: &mut [u8], seconds: u32)
     ensures { Wrote (lifetime_attribute seconds) out.old out.new }
 {
     put_attribute_head(out, AttributeKind::LIFETIME, 4);
-    put_u32_at(out, 4, seconds);
+    put_at(out, 4, seconds);
 }
 
 pub(crate) fn put_error_code(out: &mut [u8], code: u16)
@@ -159,19 +133,19 @@ pub(crate) fn put_error_code(out: &mut [u8], code: u16)
     ensures { Wrote (error_code_attribute code) out.old out.new }
 {
     put_attribute_head(out, AttributeKind::ERROR_CODE, 4);
-    put_u16_at(out, 4, 0);
-    put_u8_at(out, 6, (code / 100) as u8);
-    put_u8_at(out, 7, (code % 100) as u8);
+    put_at(out, 4, 0u16);
+    put_at(out, 6, (code / 100) as u8);
+    put_at(out, 7, (code % 100) as u8);
 }
 
-// UNKNOWN-ATTRIBUTES of the first count types; how many bytes it has.
-pub(crate) fn put_unknown_attributes(out: &mut [u8], types: [u16; 16], count: usize) -> usize
-    requires { (count ≤ 16) × (36 ≤ length out.old) }
-    ensures { Sent (unknown_attribute (take count types)) out.old out.new result }
+// UNKNOWN-ATTRIBUTES; how many bytes it has.
+pub(crate) fn put_unknown_attributes(out: &mut [u8], types: &[u16]) -> usize
+    requires { (length types.now ≤ 16) × (36 ≤ length out.old) }
+    ensures { Sent (unknown_attribute types.now) out.old out.new result }
 {
-    let len = count * 2;
+    let len = types.len() * 2;
     put_attribute_head(out, AttributeKind::UNKNOWN_ATTRIBUTES, len as u16);
-    put_types(&mut out[4..], types, count);
+    put_types(&mut out[4..], types);
     let types_end = 4 + len;
     put_zeros(&mut out[types_end..], padding(len));
     attribute_size(len)
@@ -203,8 +177,7 @@ pub fn put_allocate_success(
     requires { 1536 ≤ length reply.old }
     ensures { Sent (allocate_success id relay port seconds client) reply.old reply.new result }
 {
-    let address = client.address;
-    let len = 20 + address_size(address);
+    let len = 20 + address_size(client.address);
     put_header(reply, MessageKind::ALLOCATE_SUCCESS, len as u16, id);
     put_v4_address(
         &mut reply[20..],
@@ -217,8 +190,7 @@ pub fn put_allocate_success(
         &mut reply[40..],
         AttributeKind::XOR_MAPPED_ADDRESS,
         id,
-        address,
-        client.port,
+        client,
     );
     20 + len
 }
@@ -250,21 +222,20 @@ pub fn put_error_response(reply: &mut [u8], method: Method, id: TransactionId, c
     28
 }
 
-// The answer 420, with the first count types that are unknown.
+// The answer 420, with the types that are unknown.
 pub fn put_unknown_response(
     reply: &mut [u8],
     method: Method,
     id: TransactionId,
-    types: [u16; 16],
-    count: usize,
+    types: &[u16],
 ) -> usize
-    requires { (count ≤ 16) × (1536 ≤ length reply.old) }
-    ensures { Sent (unknown_response method id (take count types)) reply.old reply.new result }
+    requires { (length types.now ≤ 16) × (1536 ≤ length reply.old) }
+    ensures { Sent (unknown_response method id types.now) reply.old reply.new result }
 {
-    let len = 8 + attribute_size(count * 2);
+    let len = 8 + attribute_size(types.len() * 2);
     put_header(reply, method.error_type(), len as u16, id);
     put_error_code(&mut reply[20..], 420);
-    put_unknown_attributes(&mut reply[28..], types, count);
+    put_unknown_attributes(&mut reply[28..], types);
     20 + len
 }
 
@@ -297,8 +268,8 @@ pub fn put_channel_data(reply: &mut [u8], number: u16, payload: &[u8]) -> usize
     ensures { Sent (channel_data number payload.now) reply.old reply.new result }
 {
     let len = payload.len();
-    put_u16(reply, number);
-    put_u16_at(reply, 2, len as u16);
+    number.put(reply);
+    put_at(reply, 2, len as u16);
     put_bytes(&mut reply[4..], payload);
     4 + len
 }

@@ -1,13 +1,13 @@
 -- What the functions inside ChannelBind promise each other. No public statement rests on it.
-use Rattle.std.specs.Prelude.{ℕ, ◌≡◌}
+use Rattle.std.specs.Prelude.{ℕ, Option, None}
+use Rattle.choice.specs.Choice.{pick}
 use Rattle.address.specs.declared.TransportAddress.{TransportAddress}
 use Rattle.slot.specs.declared.Slot.{Slot}
 use Rattle.slot.specs.Slot.{permit, bind}
-use Rattle.permission_rules.specs.declared.channels.Bound.{Bound}
-use Rattle.permission_rules.specs.Permissions.{bound}
+use Rattle.slot.specs.Inner.{made}
 
--- the permission and the channel that ChannelBind would make, and whether there is room for each
-pub record Binding (time number : ℕ) (peer : TransportAddress) (slot : Slot) (made : Bound) : Type 0 where
-  pub permitted_is : made.permitted ≡ (permit time peer.address slot).ok
-  pub bound_is : made.bound ≡ (bind time number peer (permit time peer.address slot).slot).ok
-  pub slot_is : made.slot ≡ bound time number peer slot
+-- the slot with the permission and the channel that ChannelBind would make, where there is room for both
+unfoldable pub bound_where_room : (time number : ℕ) → TransportAddress → Slot → Option Slot
+bound_where_room time number peer slot =
+    let permitted = permit time peer.address slot in
+    pick permitted.ok (made (bind time number peer permitted.slot)) None

@@ -1,14 +1,12 @@
 -- Document 01's CreatePermission and ChannelBind: the checks with their codes in order, and what the accepted request does to its slot.
-use Rattle.std.specs.Prelude.{ℕ, Bool, true, false, not, List, [], ◌∷◌}
+use Rattle.std.specs.Prelude.{ℕ, Bool, true, false, not, List, [], ◌∷◌, Option}
 use Rattle.choice.specs.Choice.{pick, any}
 use Rattle.address.specs.declared.TransportAddress.{TransportAddress}
 use Rattle.stun.specs.declared.kinds.Method.TheVariants.{CreatePermission, ChannelBind}
-use Rattle.stun.specs.declared.values.AddressValue.{AddressValue}
-use Rattle.stun.specs.Values.{transaction_id_of, peers, first_peer}
+use Rattle.stun.specs.Values.{transaction_id_of, peer_or_nobody, peers, first_peer}
 use Rattle.messages.specs.Messages.{bare_success}
 use Rattle.slot.specs.declared.Slot.{Slot}
-use Rattle.slot.specs.declared.Placed.{Placed}
-use Rattle.slot.specs.Slot.{is_channel_number, permit, number_taken, peer_taken, bind}
+use Rattle.slot.specs.Slot.{is_channel_number, permit, number_taken, peer_taken, bind, Placed}
 use Rattle.rules.specs.declared.requests.ClientCall.{ClientCall}
 use Rattle.rules.specs.Change.{Change, write, to_client, check, respond}
 use Rattle.rules.specs.Values.{channel_number, missing, number_given, is_ipv6, none, malformed_peer, ipv6_peer}
@@ -16,12 +14,12 @@ use Rattle.rules.specs.Requests.{own_code}
 
 -- ---- CreatePermission
 
-unfoldable pub permit_peer : ℕ → AddressValue → Slot → Placed
-permit_peer time v slot = permit time v.peer.address slot
+unfoldable pub permit_peer : ℕ → Option TransportAddress → Slot → Placed
+permit_peer time v slot = permit time (peer_or_nobody v).address slot
 
 -- 'Then, in order of appearance, a live permission for the IP address .. or the lowest entry that isn't live takes it'; `done` is the
 -- slot with those before
-unfoldable pub permit_all : ℕ → List AddressValue → Slot → Slot → Placed
+unfoldable pub permit_all : ℕ → List (Option TransportAddress) → Slot → Slot → Placed
 permit_all time [] was done = record { ok = true; slot = done }
 permit_all time (v ∷ rest) was done =
     let one = permit_peer time v done in
@@ -53,7 +51,7 @@ create_permission call s denied own slot =
 unfoldable pub channel_bind_code : ClientCall → List ℕ → (denied own : Bool) → Slot → ℕ
 channel_bind_code call s denied own slot =
     let number = number_given (channel_number s) in
-    let peer = (first_peer s).peer in
+    let peer = peer_or_nobody (first_peer s) in
     let permitted = permit call.time peer.address slot in
     own_code call s own slot
     (check (missing (channel_number s)) 400
@@ -74,7 +72,7 @@ bound time number peer slot = (bind time number peer (permit time peer.address s
 unfoldable pub channel_bind : ClientCall → List ℕ → (denied own : Bool) → Slot → Change
 channel_bind call s denied own slot =
     let number = number_given (channel_number s) in
-    let peer = (first_peer s).peer in
+    let peer = peer_or_nobody (first_peer s) in
     respond call.five_tuple ChannelBind s (channel_bind_code call s denied own slot)
     (write (bound call.time number peer slot)
     (to_client call.five_tuple (bare_success ChannelBind (transaction_id_of s))))

@@ -2,25 +2,24 @@
 ghost use Rattle.std.specs.Prelude.{◌≡◌, ◌≤◌, length};
 ghost use Rattle.permission_rules.specs.Denials.{denied_address, denied_peer, any_denied, first_denied};
 
-use address::Address;
+use address::{Address, TransportAddress};
 use denied::tree::is_denied;
-use stun::values::{AddressValue, PeerReading, first_peer, next_peer};
+use stun::peers::{Peers, first_peer};
+use stun::values::NOBODY;
 
 fn is_denied_address(nodes: &[u16; 1536], address: Address) -> bool
     ensures { result ≡ denied_address nodes.now address }
 {
     match address {
         Address::V4(a) => is_denied(nodes, a),
-        Address::V6(_, _, _, _) => false,
+        Address::V6(..) => false,
     }
 }
 
-fn is_denied_peer(nodes: &[u16; 1536], value: AddressValue) -> bool
+fn is_denied_peer(nodes: &[u16; 1536], value: Option<TransportAddress>) -> bool
     ensures { result ≡ denied_peer nodes.now value }
 {
-    let peer = value.peer;
-    let address = peer.address;
-    is_denied_address(nodes, address)
+    is_denied_address(nodes, value.unwrap_or(NOBODY).address)
 }
 
 // Of a CreatePermission: whether some peer address is denied.
@@ -28,20 +27,7 @@ pub fn any_denied(nodes: &[u16; 1536], s: &[u8]) -> bool
     requires { 20 ≤ length s.now }
     ensures { result ≡ any_denied nodes.now s.now }
 {
-    let mut at = stun::HEADER;
-    loop {
-        match next_peer(s, at) {
-            PeerReading::One { value, next } => {
-                if is_denied_peer(nodes, value) {
-                    return true;
-                }
-                at = next;
-            }
-            PeerReading::Done => {
-                return false;
-            }
-        }
-    }
+    Peers::of(s).any(|value| is_denied_peer(nodes, value))
 }
 
 // Of a ChannelBind: whether its peer is.

@@ -1,108 +1,85 @@
 // CreatePermission: its checks, and the fold over its peer addresses.
 ghost use Rattle.std.specs.Prelude.{◌≡◌, ◌≤◌, ◌^◌, length};
 ghost use Rattle.stun.specs.Values.{peers};
-ghost use Rattle.rules.specs.Inner.{Answers, faulty};
+ghost use Rattle.rules.specs.Codes.{code_of};
+ghost use Rattle.rules.specs.Inner.{Answers};
+ghost use Rattle.slot.specs.Inner.{made};
 ghost use Rattle.choice.specs.Choice.{any};
-ghost use Rattle.rules.specs.Values.{none};
+ghost use Rattle.rules.specs.Values.{none, malformed_peer, ipv6_peer};
 ghost use Rattle.permission_rules.specs.Permissions.{permit_peer, permit_all, create_permission_code, create_permission};
 
+use address::TransportAddress;
 use messages::put_bare_success;
-use rules::answer::{Answer, Outcome, check, respond_error};
-use rules::requests::{ClientCall, own_code};
-use rules::values::{PeerFault, is_faulty};
+use rules::answer::{Answer, Outcome, respond_error};
+use rules::codes::{ErrorCode, check};
+use rules::requests::{ClientCall, check_own};
+use rules::values::{ipv6_peer, malformed_peer};
+use slot::Slot;
 use slot::permissions::permit;
-use slot::{Placed, Slot};
 use stun::kinds::Method;
-use stun::values::{AddressValue, PeerReading, next_peer, transaction_id};
+use stun::peers::Peers;
+use stun::values::{NOBODY, transaction_id};
 
 fn no_peer(s: &[u8]) -> bool
     requires { 20 ≤ length s.now }
     ensures { result ≡ none (peers s.now) }
 {
-    match next_peer(s, stun::HEADER) {
-        PeerReading::One { value: _, next: _ } => false,
-        PeerReading::Done => true,
-    }
+    Peers::of(s).next().is_none()
 }
 
-// Whether some peer address has the fault.
-fn any_faulty(s: &[u8], fault: PeerFault) -> bool
-    requires { 20 ≤ length s.now }
-    ensures { result ≡ any (faulty fault) (peers s.now) }
-{
-    let mut at = stun::HEADER;
-    loop {
-        match next_peer(s, at) {
-            PeerReading::One { value, next } => {
-                if is_faulty(fault, value) {
-                    return true;
-                }
-                at = next;
-            }
-            PeerReading::Done => {
-                return false;
-            }
-        }
-    }
-}
-
-fn permit_peer(time: u64, value: AddressValue, slot: Slot) -> Placed
+#[tactic(auto, unfolding(crate::specs::Permissions::permit_peer))]
+fn permit_peer(time: u64, value: Option<TransportAddress>, slot: Slot) -> Option<Slot>
     requires { time ≤ 2 ^ 40 }
-    ensures { result ≡ permit_peer time value slot }
+    ensures { result ≡ made (permit_peer time value slot) }
 {
-    let peer = value.peer;
-    let address = peer.address;
-    permit(time, address, slot)
+    permit(time, value.unwrap_or(NOBODY).address, slot)
 }
 
-// Each peer address is given its permission in order; where one finds no room, the slot is as it was.
-fn permit_all(s: &[u8], time: u64, slot: Slot) -> Placed
+// Each peer address is given its permission in order; none where one finds no room.
+fn permit_all(s: &[u8], time: u64, slot: Slot) -> Option<Slot>
     requires { (20 ≤ length s.now) × (time ≤ 2 ^ 40) }
-    ensures { result ≡ permit_all time (peers s.now) slot slot }
+    ensures { result ≡ made (permit_all time (peers s.now) slot slot) }
 {
     let mut done = slot;
-    let mut at = stun::HEADER;
-    loop {
-        match next_peer(s, at) {
-            PeerReading::One { value, next } => {
-                let one = permit_peer(time, value, done);
-                if !one.ok {
-                    return Placed { ok: false, slot };
-                }
-                done = one.slot;
-                at = next;
-            }
-            PeerReading::Done => {
-                return Placed {
-                    ok: true,
-                    slot: done,
-                };
-            }
-        }
+    for value in Peers::of(s) {
+        done = permit_peer(time, value, done)?;
     }
+    Some(done)
 }
 
-fn create_permission_code(
+fn any_malformed(s: &[u8]) -> bool
+    requires { 20 ≤ length s.now }
+    ensures { result ≡ any malformed_peer (peers s.now) }
+{
+    Peers::of(s).any(malformed_peer)
+}
+
+fn any_ipv6(s: &[u8]) -> bool
+    requires { 20 ≤ length s.now }
+    ensures { result ≡ any ipv6_peer (peers s.now) }
+{
+    Peers::of(s).any(ipv6_peer)
+}
+
+// Whether there was room for each address comes as an argument.
+#[tactic(auto, unfolding(crate::specs::Permissions::create_permission_code, rules::specs::Change::check))]
+fn check_create_permission(
     s: &[u8],
     call: ClientCall,
     denied: bool,
     own: bool,
     slot: Slot,
     room: bool,
-) -> u16
+) -> Result<(), ErrorCode>
     requires { (20 ≤ length s.now) × (room ≡ (permit_all call.time (peers s.now) slot slot).ok) }
-    ensures { (result ≡ create_permission_code call s.now denied own slot) × (result ≤ 699) }
+    ensures { code_of result ≡ create_permission_code call s.now denied own slot }
 {
-    let rest = check(
-        any_faulty(s, PeerFault::Malformed),
-        400,
-        check(
-            any_faulty(s, PeerFault::Ipv6),
-            443,
-            check(denied, 403, check(!room, 508, 0)),
-        ),
-    );
-    own_code(s, call, own, slot, check(no_peer(s), 400, rest))
+    check_own(s, call, own, slot)?;
+    check(no_peer(s), ErrorCode::BadRequest)?;
+    check(any_malformed(s), ErrorCode::BadRequest)?;
+    check(any_ipv6(s), ErrorCode::PeerAddressFamilyMismatch)?;
+    check(denied, ErrorCode::Forbidden)?;
+    check(!room, ErrorCode::InsufficientCapacity)
 }
 
 pub fn create_permission(
@@ -114,20 +91,18 @@ pub fn create_permission(
     was: Slot,
 ) -> Answer
     requires { (20 ≤ length s.now) × (1536 ≤ length reply.old) × (call.time ≤ 2 ^ 40) }
-    ensures { Answers (create_permission call s.now denied own was) was reply.old reply.new result }
+    ensures { Answers (create_permission call s.now denied own was) reply.old reply.new result }
 {
-    let placed = permit_all(s, call.time, was);
-    let code = create_permission_code(s, call, denied, own, was, placed.ok);
+    let permitted = permit_all(s, call.time, was);
     let five_tuple = call.five_tuple;
-    if code != 0 {
-        return respond_error(s, reply, five_tuple, Method::CreatePermission, code, was);
+    if let Err(code) = check_create_permission(s, call, denied, own, was, permitted.is_some()) {
+        return respond_error(s, reply, five_tuple, Method::CreatePermission, code);
     }
-    let slot = placed.slot;
+    let slot = permitted.unwrap_or(was);
     let len = put_bare_success(reply, Method::CreatePermission, transaction_id(s));
     let outcome = Outcome::ToClient { five_tuple, len };
     Answer {
         outcome,
-        writes: true,
-        slot,
+        written: Some(slot),
     }
 }

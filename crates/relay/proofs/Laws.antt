@@ -6,10 +6,11 @@ use mathlib.Core.List.{List}
 use native.Mathlib.Omega.{arith}
 use lib.Dec.{eqb, ltb}
 use lib.ListN.{length, set}
-use borrow.Author.Tests.{eqb-true, ltb-false, not-true, not-false}
+use borrow.Author.Tests.{eqb-true, ltb-false, not-false}
+use Rattle.std.specs.Prelude.{IsSome}
 use Rattle.choice.specs.Choice.{pick}
 use Rattle.slot.specs.declared.Slot.{Slot}
-use Rattle.slot.specs.declared.Found.{Found}
+use Rattle.std.specs.Prelude.{Option}
 use Rattle.slot.specs.Search.{find, has}
 use Rattle.slot.specs.Slot.{holds, holds_port}
 use Rattle.table.specs.Table.{in_slot, lapsed}
@@ -21,7 +22,7 @@ use Rattle.rules.specs.declared.answer.Answer.{Answer}
 use Rattle.rules.specs.declared.answer.Outcome.{Outcome}
 use Rattle.decisions.specs.declared.client.Asked.{Asked}
 use Rattle.rules.specs.Change.{Out, Change, keep, write, out_of, outcome_of, reply_after}
-use Rattle.rules.specs.Inner.{writes, slot_after, Answers}
+use Rattle.rules.specs.Inner.{slot_written, Answers}
 use Rattle.decisions.specs.Client.{asked_by}
 use Rattle.rules.proofs.Laws.{kept_not_written}
 use Rattle.interface.specs.declared.incoming.Call.{Call}
@@ -35,8 +36,8 @@ use Rattle.state.specs.Outcomes.{Does}
 use Rattle.interface.specs.Refusals.{time_of, lengths, refusal}
 use Rattle.decisions.specs.Decisions.{names_denied, on_asked, decided}
 use Rattle.state.specs.Step.{done, accepted}
-use Rattle.decisions.specs.Inner.{asking_of, Ready, asked_for, wanted_by, saw, place_for, place_in, unwritten}
-use Rattle.relay.specs.Inner.{Begun, Saw, LookedFor, WroteBack, Answered, DoesAccepted}
+use Rattle.decisions.specs.Inner.{Ready, asked_for, wanted_by, saw, place_for, place_in, unwritten}
+use Rattle.relay.specs.Inner.{Saw, LookedFor, WroteBack, Answered}
 use Rattle.decisions.proofs.Laws.{decided-writes}
 use Rattle.state.proofs.Laws.{kept_done, written-done, does}
 
@@ -129,106 +130,53 @@ decided_within denied call s slots = go call
     go (Client c) = asks c (asked_by s)
     go (Peer c) = found_within (in_slot (holds_port c.time c.port)) slots _ refl
 
--- what was decided, as a change that keeps or writes
-keeps_out : (change : Change) {b : Bool} → b ≡ writes change → not b ≡ true → change ≡ keep (out_of change)
-keeps_out (keep out) e n = refl
-keeps_out (write slot out) e n = absurd (false≢true (sym (ap not e) ∙ n))
+-- the place of the slot that is written lies in the table
+module _ (slots : List Slot) (denied : Bool) (call : Call) (s : List ℕ) (asked : Asked) {survey : Survey} (looked : Looked slots (wanted_by call asked) survey)
+    (a : asked ≡ asked_for call s) (slot : Slot) (out : Out) (is : (decided denied call s slots).change ≡ write slot out) where
+  placed : place_for asked survey ≡ (decided denied call s slots).place
+  placed = places denied call s slots a looked slot out is
 
-record Writing (change : Change) : Type 0 where
-  slot : Slot
-  out : Out
-  is : change ≡ write slot out
+  there : has (place_for asked survey) ≡ true
+  there = ap has placed ∙ decided-writes denied call s slots slot out is
 
-writing : (change : Change) {b : Bool} → b ≡ writes change → not b ≡ false → Writing change
-writing (keep out) e n = absurd (false≢true (sym n ∙ ap not e))
-writing (write slot out) e n = record { slot = slot; out = out; is = refl }
-
-module _ (slots : List Slot) (denied : Bool) (call : Call) (s reply : List ℕ) (asked : Asked) {reply' : List ℕ} {survey : Survey} {own : Slot} {answer : Answer}
-    (looked : Looked slots (wanted_by call asked) survey) (w : Answers (decided denied call s slots).change own reply reply' answer) where
-  -- where nothing is written
-  kept_step : (kept : Bookkeeping) → names_denied kept.denied call s ≡ denied → not answer.writes ≡ true → Does (accepted (state slots kept) call s) (state slots kept) answer.outcome (state slots (at_clock (time_of call) kept)) reply reply'
-  unfolding accepted
-  kept_step kept t n =
-      let change = (decided denied call s slots).change in
-      let out = out_of change in
-      let q : change ≡ keep out = keeps_out change w.writes n in
-      rw t
-      (does (at_time (time_of call) (state slots kept)) out
-      (ap (done (at_time (time_of call) (state slots kept)) (decided denied call s slots).place) q ∙ kept_done _ (decided denied call s slots).place out)
-      w.gives.outcome_is refl w.gives.reply_is)
-
-  -- where a slot is written
-  module _ (a : asked ≡ asked_for call s) (y : not answer.writes ≡ false) where
-    what : Writing (decided denied call s slots).change
-    what = writing (decided denied call s slots).change w.writes y
-
-    placed : place_for asked survey ≡ (decided denied call s slots).place
-    placed = places denied call s slots a looked what.slot what.out what.is
-
-    there : has (place_for asked survey) ≡ true
-    there = ap has placed ∙ decided-writes denied call s slots what.slot what.out what.is
-
-    put_within : {k : ℕ} → k ≡ place_of (place_for asked survey) → k < length slots
-    put_within {k} p =
-        place_there slots (place_for asked survey) refl there p (subst (λ (x : Found). Within x (length slots)) (sym placed) (decided_within denied call s slots))
-
-    written_step : (kept : Bookkeeping) → names_denied kept.denied call s ≡ denied → {k : ℕ} → k ≡ place_of (place_for asked survey)
-        → Does (accepted (state slots kept) call s) (state slots kept) answer.outcome (state (set slots k answer.slot) (at_clock (time_of call) kept)) reply reply'
-    unfolding accepted
-    written_step kept t {k} p =
-        let st = at_time (time_of call) (state slots kept) in
-        let same : answer.slot ≡ what.slot = w.slot ∙ ap (slot_after own) what.is in
-        rw t
-        (does (with_slots (set slots k what.slot) st) what.out
-        (ap (λ (x : Change). done st (decided denied call s slots).place x) what.is
-        ∙ ap (λ (x : Found). done st x (write what.slot what.out)) (sym placed)
-        ∙ written-done st (place_for asked survey) what.slot what.out there p)
-        (w.gives.outcome_is ∙ ap (λ (x : Change). outcome_of (out_of x)) what.is)
-        (ap (λ (x : Slot). state (set slots k x) (at_clock (time_of call) kept)) same)
-        (w.gives.reply_is ∙ ap (λ (x : Change). reply_after reply (out_of x)) what.is))
+  put_within : place_of (place_for asked survey) < length slots
+  put_within = place_there slots (place_for asked survey) refl there refl (subst (λ (x : Option ℕ). Within x (length slots)) (sym placed) (decided_within denied call s slots))
 
 -- the slot that was found
 pub seen_within : (slots : List Slot) {call : Call} {s : List ℕ} {seen : Seen} → Saw slots call s seen → Within seen.survey.own (length slots)
 seen_within slots w = own_within slots w.looked
 
 -- the slot that is written lies in the table, and it is written back
-module _ (slots : List Slot) (call : Call) (s reply : List ℕ) (seen : Seen) {reply' : List ℕ} {own : Slot} {answer : Answer} (sees : Saw slots call s seen)
-    (w : Answers (decided seen.denied call s slots).change own reply reply' answer) where
-  pub written_within : answer.writes ≡ true → place_in seen < length slots
-  written_within y = put_within slots seen.denied call s reply seen.asked sees.looked w sees.asked (ap not y) refl
+module _ (slots : List Slot) (call : Call) (s reply : List ℕ) (seen : Seen) {reply' : List ℕ} {answer : Answer} (sees : Saw slots call s seen)
+    (w : Answers (decided seen.denied call s slots).change reply reply' answer) where
+  pub written_within : IsSome answer.written → place_in seen < length slots
+  written_within y = go (decided seen.denied call s slots).change refl w.written
+    where
+      go : (change : Change) → (decided seen.denied call s slots).change ≡ change → answer.written ≡ slot_written change → place_in seen < length slots
+      go (keep out) e n = absurd (false≢true (subst IsSome n y))
+      go (write slot out) e n = put_within slots seen.denied call s seen.asked sees.looked sees.asked slot out e
 
   pub answered : {slots' : List Slot} {outcome : Outcome} → WroteBack seen answer outcome slots slots' → Answered seen.denied slots call s outcome slots' reply reply'
-  answered {slots'} {outcome} b = record { does = λ kept t. rw (b.slots_are, b.outcome_is) (go kept t answer.writes refl) }
+  unfolding accepted
+  answered {slots'} {outcome} b = record { does = λ kept t. go kept t (decided seen.denied call s slots).change refl w.written }
     where
-      go : (kept : Bookkeeping) → names_denied kept.denied call s ≡ seen.denied → (b : Bool) → answer.writes ≡ b
-          → Does (accepted (state slots kept) call s) (state slots kept) answer.outcome (state (pick b (set slots (place_in seen) answer.slot) slots) (at_clock (time_of call) kept)) reply reply'
-      go kept t true y = written_step slots seen.denied call s reply seen.asked sees.looked w sees.asked (ap not y) kept t refl
-      go kept t false n = kept_step slots seen.denied call s reply seen.asked sees.looked w kept t (ap not n)
-
--- a slot is written back, or none
-module _ (slots : List Slot) (seen : Seen) (answer : Answer) {none : Bool} {outcome : Outcome} (e : none ≡ not answer.writes) (o : outcome ≡ answer.outcome) where
-  pub none_back : none ≡ true → WroteBack seen answer outcome slots slots
-  none_back y = record { outcome_is = o; slots_are = rw (not-true answer.writes (sym e ∙ y)) }
-
-  pub one_back : {k : ℕ} {slot : Slot} {slots' : List Slot} → none ≡ false → k ≡ place_in seen → slot ≡ answer.slot → slots' ≡ set slots k slot
-      → WroteBack seen answer outcome slots slots'
-  one_back {k} {slot} n p c g = record {
-    outcome_is = o;
-    slots_are = rw (not-false answer.writes (sym e ∙ n)) (g ∙ ap (λ (j : ℕ). set slots j slot) p ∙ ap (set slots (place_in seen)) c);
-  }
+      go : (kept : Bookkeeping) → names_denied kept.denied call s ≡ seen.denied → (change : Change) → (decided seen.denied call s slots).change ≡ change
+          → answer.written ≡ slot_written change
+          → Does (accepted (state slots kept) call s) (state slots kept) outcome (state slots' (at_clock (time_of call) kept)) reply reply'
+      go kept t (keep out) e n =
+          rw (t, e, b.slots_are, n)
+          (does (at_time (time_of call) (state slots kept)) out (kept_done _ (decided seen.denied call s slots).place out)
+          (b.outcome_is ∙ w.gives.outcome_is ∙ ap (λ (x : Change). outcome_of (out_of x)) e) refl
+          (w.gives.reply_is ∙ ap (λ (x : Change). reply_after reply (out_of x)) e))
+      go kept t (write slot out) e n =
+          let st = at_time (time_of call) (state slots kept) in
+          rw (t, e, b.slots_are, n)
+          (does (with_slots (set slots (place_in seen) slot) st) out
+          (ap (λ (x : Option ℕ). done st x (write slot out)) (sym (placed slots seen.denied call s seen.asked sees.looked sees.asked slot out e))
+          ∙ written-done st (place_for seen.asked seen.survey) slot out (there slots seen.denied call s seen.asked sees.looked sees.asked slot out e) refl)
+          (b.outcome_is ∙ w.gives.outcome_is ∙ ap (λ (x : Change). outcome_of (out_of x)) e) refl
+          (w.gives.reply_is ∙ ap (λ (x : Change). reply_after reply (out_of x)) e))
 
 -- data writes none
-pub data_back : (slots : List Slot) (seen : Seen) {own : Slot} {outcome : Outcome} → WroteBack seen (unwritten outcome own) outcome slots slots
+pub data_back : (slots : List Slot) (seen : Seen) {outcome : Outcome} → WroteBack seen (unwritten outcome) outcome slots slots
 data_back slots seen = record { outcome_is = refl; slots_are = refl }
-
--- the clock was set, and then it was read what the call asks
-pub begun : {kept kept' : Bookkeeping} {call : Call} {s : List ℕ} {time : ℕ} {asking : Asking} → time ≡ time_of call → kept' ≡ at_clock time kept → asking ≡ asking_of kept'.denied call s
-    → Begun kept call s asking kept'
-begun {kept} {kept'} {call} {s} t k a = record { asking_is = a ∙ ap (λ (b : Bookkeeping). asking_of b.denied call s) k; kept_is = k ∙ ap (λ (n : ℕ). at_clock n kept) t }
-
--- a call that was answered by what is asked, with the clock as it was set
-pub begun-answered : {asking : Asking} {slots : List Slot} {kept kept' : Bookkeeping} {call : Call} {s : List ℕ} {outcome : Outcome} {slots' : List Slot} {reply reply' : List ℕ} → Begun kept call s asking kept'
-    → Answered asking.denied slots call s outcome slots' reply reply'
-    → DoesAccepted slots kept call s outcome slots' kept' reply reply'
-begun-answered {asking} {slots} {kept} {kept'} {call} {s} {outcome} {slots'} {reply} {reply'} b w =
-    subst (λ (k : Bookkeeping). DoesAccepted slots kept call s outcome slots' k reply reply') (sym b.kept_is) (w.does kept (sym (ap (λ (x : Asking). x.denied) b.asking_is)))

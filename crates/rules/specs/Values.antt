@@ -1,11 +1,11 @@
 -- The words in which the checks speak of what a request carries.
-use Rattle.std.specs.Prelude.{ℕ, Bool, true, false, not, List, [], ◌∷◌, eqb, length}
+use Rattle.std.specs.Prelude.{ℕ, Bool, true, false, not, List, [], ◌∷◌, eqb, length, Option, is_some}
 use Rattle.address.specs.declared.Address.{Address}
 use Rattle.address.specs.declared.Address.TheVariants.{V4, V6}
+use Rattle.address.specs.declared.TransportAddress.{TransportAddress}
 use Rattle.stun.specs.AttributeNumbers as attribute
 use Rattle.stun.specs.Message.{unknown_types}
-use Rattle.stun.specs.Values.{number_value}
-use Rattle.stun.specs.declared.values.AddressValue.{AddressValue}
+use Rattle.stun.specs.Values.{peer_or_nobody, number_value}
 use Rattle.stun.specs.declared.values.NumberValue.{NumberValue}
 use Rattle.stun.specs.declared.values.NumberValue.TheVariants.{Number, WrongLength, Absent}
 
@@ -62,12 +62,12 @@ ipv4_of (V4 a) = a
 ipv4_of (V6 a b c d) = 0
 
 -- 'no peer address'
-abbrev pub none : List AddressValue → Bool
+abbrev pub none : List (Option TransportAddress) → Bool
 none [] = true
 none (v ∷ rest) = false
 
-unfoldable pub malformed_peer : AddressValue → Bool
-malformed_peer v = not v.well_formed
+unfoldable pub malformed_peer : Option TransportAddress → Bool
+malformed_peer v = not (is_some v)
 
-unfoldable pub ipv6_peer : AddressValue → Bool
-ipv6_peer v = is_ipv6 v.peer.address
+unfoldable pub ipv6_peer : Option TransportAddress → Bool
+ipv6_peer v = is_ipv6 (peer_or_nobody v).address

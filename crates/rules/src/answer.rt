@@ -1,10 +1,13 @@
-// What a call gives back, the ordered checks, and the error response.
+// What a call gives back, and the error response.
 ghost use Rattle.std.specs.Prelude.{◌≡◌, ◌≤◌, length};
-ghost use Rattle.rules.specs.Change.{check, error_message, keep, to_client};
+ghost use Rattle.rules.specs.Change.{error_message, keep, to_client};
+ghost use Rattle.rules.specs.Codes.{number};
 ghost use Rattle.rules.specs.Inner.{Answers};
 
+use crate::codes::ErrorCode;
 use address::{FiveTuple, TransportAddress};
 use messages::{put_error_response, put_unknown_response};
+use refusal::Refusal;
 use slot::Slot;
 use stun::kinds::Method;
 use stun::message::unknown_types;
@@ -12,7 +15,7 @@ use stun::values::transaction_id;
 
 #[derive(Clone, Copy)]
 pub enum Outcome {
-    Refused(u8),
+    Refused(Refusal),
     // A drop has one of three causes: a missing permission alone, which has lapsed or never was; or another.
     DroppedLapsed,
     DroppedNever,
@@ -31,20 +34,11 @@ pub enum Outcome {
     },
 }
 
-// What a rule decides: the outcome, whether it writes a slot, and the slot that it was about as it leaves it.
+// What a rule decides: the outcome, and what the slot that it is about becomes, where it is written.
 #[derive(Clone, Copy)]
 pub struct Answer {
     pub outcome: Outcome,
-    pub writes: bool,
-    pub slot: Slot,
-}
-
-// The code where the test holds, else what the later checks say; 0 is no error.
-pub fn check(bad: bool, code: u16, rest: u16) -> u16
-    requires { (code ≤ 699) × (rest ≤ 699) }
-    ensures { (result ≡ check bad code rest) × (result ≤ 699) }
-{
-    if bad { code } else { rest }
+    pub written: Option<Slot>,
 }
 
 // The error response, with the slot as it was.
@@ -53,30 +47,24 @@ pub fn respond_error(
     reply: &mut [u8],
     five_tuple: FiveTuple,
     method: Method,
-    code: u16,
-    slot: Slot,
+    code: ErrorCode,
 ) -> Answer
-    requires { (20 ≤ length s.now) × (1536 ≤ length reply.old) × (code ≤ 699) }
-    ensures { Answers (keep (to_client five_tuple (error_message method s.now code))) slot reply.old reply.new result }
+    requires { (20 ≤ length s.now) × (1536 ≤ length reply.old) }
+    ensures { Answers (keep (to_client five_tuple (error_message method s.now (number code)))) reply.old reply.new result }
 {
     let id = transaction_id(s);
-    if code == 420 {
+    if code == ErrorCode::UnknownAttribute {
         let unknown = unknown_types(s);
-        let types = unknown.types;
-        let count = unknown.count;
-        let len = put_unknown_response(reply, method, id, types, count);
-        let outcome = Outcome::ToClient { five_tuple, len };
+        let types = &unknown.types[..unknown.count];
+        let len = put_unknown_response(reply, method, id, types);
         return Answer {
-            outcome,
-            writes: false,
-            slot,
+            outcome: Outcome::ToClient { five_tuple, len },
+            written: None,
         };
     }
-    let len = put_error_response(reply, method, id, code);
-    let outcome = Outcome::ToClient { five_tuple, len };
+    let len = put_error_response(reply, method, id, code.number());
     Answer {
-        outcome,
-        writes: false,
-        slot,
+        outcome: Outcome::ToClient { five_tuple, len },
+        written: None,
     }
 }

@@ -3,5 +3,6 @@
 #![tactic(auto)]
 
 pub mod answer;
+pub mod codes;
 pub mod requests;
 pub mod values;

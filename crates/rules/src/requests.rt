@@ -1,8 +1,9 @@
 // What a client's call brings to the rules, and the checks that the requests share.
-ghost use Rattle.std.specs.Prelude.{◌≡◌, ◌≤◌};
+ghost use Rattle.std.specs.Prelude.{◌≡◌, ℕ};
+ghost use Rattle.rules.specs.Codes.{code_or};
 ghost use Rattle.rules.specs.Requests.{request_code, own_code};
 
-use crate::answer::check;
+use crate::codes::{ErrorCode, check};
 use crate::values::any_unknown;
 use address::FiveTuple;
 use slot::Slot;
@@ -17,23 +18,22 @@ pub struct ClientCall {
     pub five_tuple: FiveTuple,
 }
 
-// The checks of every request, and then the rest.
-pub fn request_code(s: &[u8], call: ClientCall, rest: u16) -> u16
-    requires { rest ≤ 699 }
-    ensures { (result ≡ request_code call s.now rest) × (result ≤ 699) }
+// The checks of every request.
+#[tactic(auto, unfolding(crate::specs::Change::check, crate::specs::Requests::request_code))]
+pub fn check_request(s: &[u8], call: ClientCall) -> Result<(), ErrorCode>
+    ensures { (rest : ℕ) → code_or result rest ≡ request_code call s.now rest }
 {
-    check(call.user == 0, 401, check(any_unknown(s), 420, rest))
+    check(call.user == 0, ErrorCode::Unauthorized)?;
+    check(any_unknown(s), ErrorCode::UnknownAttribute)
 }
 
-// The checks of every request that needs a live allocation, and then the rest.
-pub fn own_code(s: &[u8], call: ClientCall, own: bool, slot: Slot, rest: u16) -> u16
-    requires { rest ≤ 699 }
-    ensures { (result ≡ own_code call s.now own slot rest) × (result ≤ 699) }
+// The checks of every request that needs a live allocation.
+#[tactic(auto, unfolding(crate::specs::Change::check, crate::specs::Requests::own_code))]
+pub fn check_own(s: &[u8], call: ClientCall, own: bool, slot: Slot) -> Result<(), ErrorCode>
+    ensures { (rest : ℕ) → code_or result rest ≡ own_code call s.now own slot rest }
 {
     let allocation = slot.allocation;
-    request_code(
-        s,
-        call,
-        check(!own, 437, check(allocation.user != call.user, 441, rest)),
-    )
+    check_request(s, call)?;
+    check(!own, ErrorCode::AllocationMismatch)?;
+    check(allocation.user != call.user, ErrorCode::WrongCredentials)
 }

@@ -1,18 +1,10 @@
 // The tests of what a request carries.
 ghost use Rattle.std.specs.Prelude.{◌≡◌};
 ghost use Rattle.rules.specs.Values.{any_unknown, missing, wrong_length, other_than, number_given, is_ipv6, ipv4_of, malformed_peer, ipv6_peer};
-ghost use Rattle.rules.specs.Inner.{faulty};
 
-use address::Address;
+use address::{Address, TransportAddress};
 use stun::message::unknown_types;
-use stun::values::{AddressValue, NumberValue};
-
-// What CreatePermission looks each of its peer addresses over for.
-#[derive(Clone, Copy)]
-pub enum PeerFault {
-    Malformed,
-    Ipv6,
-}
+use stun::values::NumberValue;
 
 pub fn any_unknown(s: &[u8]) -> bool
     ensures { result ≡ any_unknown s.now }
@@ -24,31 +16,19 @@ pub fn any_unknown(s: &[u8]) -> bool
 pub fn missing(value: NumberValue) -> bool
     ensures { result ≡ missing value }
 {
-    match value {
-        NumberValue::Number(_) => false,
-        NumberValue::WrongLength => true,
-        NumberValue::Absent => true,
-    }
+    !matches!(value, NumberValue::Number(_))
 }
 
 pub fn wrong_length(value: NumberValue) -> bool
     ensures { result ≡ wrong_length value }
 {
-    match value {
-        NumberValue::Number(_) => false,
-        NumberValue::WrongLength => true,
-        NumberValue::Absent => false,
-    }
+    matches!(value, NumberValue::WrongLength)
 }
 
 pub fn other_than(wanted: u32, value: NumberValue) -> bool
     ensures { result ≡ other_than wanted value }
 {
-    match value {
-        NumberValue::Number(n) => n != wanted,
-        NumberValue::WrongLength => false,
-        NumberValue::Absent => false,
-    }
+    matches!(value, NumberValue::Number(n) if n != wanted)
 }
 
 pub fn number_given(value: NumberValue) -> u32
@@ -56,18 +36,14 @@ pub fn number_given(value: NumberValue) -> u32
 {
     match value {
         NumberValue::Number(n) => n,
-        NumberValue::WrongLength => 0,
-        NumberValue::Absent => 0,
+        _ => 0,
     }
 }
 
 pub fn is_ipv6(address: Address) -> bool
     ensures { result ≡ is_ipv6 address }
 {
-    match address {
-        Address::V4(_) => false,
-        Address::V6(_, _, _, _) => true,
-    }
+    matches!(address, Address::V6(..))
 }
 
 pub fn ipv4_of(address: Address) -> u32
@@ -75,29 +51,20 @@ pub fn ipv4_of(address: Address) -> u32
 {
     match address {
         Address::V4(a) => a,
-        Address::V6(_, _, _, _) => 0,
+        Address::V6(..) => 0,
     }
 }
 
-pub fn malformed_peer(value: AddressValue) -> bool
+#[tactic(auto, unfolding(crate::specs::Values::malformed_peer))]
+pub fn malformed_peer(value: Option<TransportAddress>) -> bool
     ensures { result ≡ malformed_peer value }
 {
-    !value.well_formed
+    value.is_none()
 }
 
-pub fn ipv6_peer(value: AddressValue) -> bool
+#[tactic(auto, unfolding(crate::specs::Values::ipv6_peer))]
+pub fn ipv6_peer(value: Option<TransportAddress>) -> bool
     ensures { result ≡ ipv6_peer value }
 {
-    let peer = value.peer;
-    let address = peer.address;
-    is_ipv6(address)
-}
-
-pub fn is_faulty(fault: PeerFault, value: AddressValue) -> bool
-    ensures { result ≡ faulty fault value }
-{
-    match fault {
-        PeerFault::Malformed => malformed_peer(value),
-        PeerFault::Ipv6 => ipv6_peer(value),
-    }
+    value.is_some_and(|peer| is_ipv6(peer.address))
 }

@@ -1,5 +1,5 @@
 -- Document 01's 'State', and what its 'Requests' and 'Data' ask of one slot, in its order and words.
-use Rattle.std.specs.Prelude.{ℕ, ◌+◌, Bool, not, List, eqb, ltb, leb, replicate}
+use Rattle.std.specs.Prelude.{ℕ, ◌+◌, Bool, not, List, eqb, ltb, leb, replicate, Option}
 use Rattle.choice.specs.Choice.{pick, both}
 use Rattle.address.specs.declared.Address.{Address}
 use Rattle.address.specs.declared.Address.TheVariants.{V4}
@@ -13,8 +13,6 @@ use Rattle.slot.specs.declared.permissions.PermissionState.TheVariants.{Live, La
 use Rattle.slot.specs.declared.Channel.{Channel}
 use Rattle.slot.specs.declared.Allocation.{Allocation}
 use Rattle.slot.specs.declared.Slot.{Slot}
-use Rattle.slot.specs.declared.Found.{Found}
-use Rattle.slot.specs.declared.Placed.{Placed}
 use Rattle.slot.specs.Search.{has, find, entry, put_at, at_or}
 
 -- 'A thing is live at time t when t < its expiry.'
@@ -102,8 +100,13 @@ permission_state time address permissions =
 unfoldable pub free_permission : ℕ → Permission → Bool
 free_permission time permission = not (live_permission time permission)
 
-unfoldable pub permission_entry : ℕ → Address → List Permission → Found
+unfoldable pub permission_entry : ℕ → Address → List Permission → Option ℕ
 permission_entry time address permissions = entry (permits time address) (free_permission time) permissions
+
+-- the slot after an entry was taken; `ok` is false where there is no room, and the slot then is as it was
+pub record Placed : Type 0 where
+  pub ok : Bool
+  pub slot : Slot
 
 -- '.. is set to expire at now + 300'; 'if neither exists .. no entry changes'
 unfoldable pub permit : ℕ → Address → Slot → Placed
@@ -138,7 +141,7 @@ peer_taken time number peer channels =
 unfoldable pub free_channel : ℕ → Channel → Bool
 free_channel time channel = not (live_channel time channel)
 
-unfoldable pub channel_entry : ℕ → ℕ → List Channel → Found
+unfoldable pub channel_entry : ℕ → ℕ → List Channel → Option ℕ
 channel_entry time number channels = entry (numbered time number) (free_channel time) channels
 
 -- 'the binding expires at now + 600'

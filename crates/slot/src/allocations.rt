@@ -3,7 +3,7 @@ ghost use Rattle.std.specs.Prelude.{◌≡◌};
 ghost use Rattle.slot.specs.Slot.{fresh_allocation, live_allocation, holds, holds_port, holds_user};
 
 use crate::{Allocation, fresh_transport_address, is_live};
-use address::{FiveTuple, same_five_tuple};
+use address::FiveTuple;
 use choice::both;
 
 pub(crate) fn fresh_allocation() -> Allocation
@@ -35,7 +35,7 @@ pub fn holds(time: u64, five_tuple: FiveTuple, allocation: Allocation) -> bool
 {
     both(
         allocation_is_live(time, allocation),
-        same_five_tuple(allocation.five_tuple, five_tuple),
+        allocation.five_tuple == five_tuple,
     )
 }
 

@@ -1,23 +1,13 @@
 // A slot's channels: fresh, live, the one with a number or a peer, and the entry that takes one.
 ghost use Rattle.std.specs.Prelude.{◌≡◌, ◌≤◌, ◌^◌};
-ghost use Rattle.slot.specs.Search.{find, put_at, at_or};
+ghost use Rattle.slot.specs.Search.{find, at_or};
 ghost use Rattle.slot.specs.Slot.{fresh_channel, is_channel_number, live_channel, numbered, leads_to};
-ghost use Rattle.slot.specs.Inner.{channel_meets};
-ghost use Rattle.slot.specs.Slot.{number_taken, peer_taken, channel_entry, bind};
+ghost use Rattle.slot.specs.Slot.{number_taken, peer_taken, free_channel, channel_entry, bind};
+ghost use Rattle.slot.specs.Inner.{made};
 
-use crate::{
-    Channel, Found, Placed, Slot, fresh_transport_address, has, is_live, or_else, with_channels,
-};
-use address::{TransportAddress, same_transport_address};
+use crate::{Channel, Slot, fresh_transport_address, is_live};
+use address::TransportAddress;
 use choice::both;
-
-// What a search of the channels looks for: one that is live with a number, one that is live for a peer, or one that isn't live.
-#[derive(Clone, Copy)]
-enum ChannelWanted {
-    Number(u16),
-    To(TransportAddress),
-    Free,
-}
 
 pub(crate) fn fresh_channel() -> Channel
     ensures { result ≡ fresh_channel }
@@ -56,63 +46,35 @@ pub(crate) fn numbered(time: u64, number: u16, channel: Channel) -> bool
 pub(crate) fn leads_to(time: u64, peer: TransportAddress, channel: Channel) -> bool
     ensures { result ≡ leads_to time peer channel }
 {
-    both(
-        channel_is_live(time, channel),
-        same_transport_address(channel.peer, peer),
-    )
-}
-
-// Whether the channel is one that the search looks for.
-fn channel_meets(time: u64, wanted: ChannelWanted, channel: Channel) -> bool
-    ensures { result ≡ channel_meets time wanted channel }
-{
-    match wanted {
-        ChannelWanted::Number(number) => numbered(time, number, channel),
-        ChannelWanted::To(peer) => leads_to(time, peer, channel),
-        ChannelWanted::Free => !channel_is_live(time, channel),
-    }
-}
-
-// The lowest channel that is wanted.
-fn search_channels(time: u64, wanted: ChannelWanted, channels: [Channel; 8]) -> Found
-    ensures { result ≡ find (channel_meets time wanted) channels }
-{
-    let mut i: usize = 0;
-    while i < 8 {
-        let channel = channels[i];
-        if channel_meets(time, wanted, channel) {
-            return Found::At(i);
-        }
-        i += 1;
-    }
-    Found::Nothing
+    both(channel_is_live(time, channel), channel.peer == peer)
 }
 
 // The lowest live channel with the number.
-pub fn channel_by_number(time: u64, number: u16, channels: [Channel; 8]) -> Found
+pub fn channel_by_number(time: u64, number: u16, channels: [Channel; 8]) -> Option<usize>
     ensures { result ≡ find (numbered time number) channels }
 {
-    search_channels(time, ChannelWanted::Number(number), channels)
+    channels
+        .iter()
+        .position(|channel| numbered(time, number, *channel))
 }
 
 // The lowest live channel for the peer.
-pub fn channel_by_peer(time: u64, peer: TransportAddress, channels: [Channel; 8]) -> Found
+pub fn channel_by_peer(time: u64, peer: TransportAddress, channels: [Channel; 8]) -> Option<usize>
     ensures { result ≡ find (leads_to time peer) channels }
 {
-    search_channels(time, ChannelWanted::To(peer), channels)
+    channels
+        .iter()
+        .position(|channel| leads_to(time, peer, *channel))
 }
 
 // The channel at the place found, or a fresh one.
-pub fn channel_at(found: Found, channels: [Channel; 8]) -> Channel
+pub fn channel_at(found: Option<usize>, channels: [Channel; 8]) -> Channel
     ensures { result ≡ at_or fresh_channel found channels }
 {
-    if let Found::At(i) = found {
-        if i < 8 {
-            return channels[i];
-        }
-        return fresh_channel();
+    match found {
+        Some(i) if i < 8 => channels[i],
+        _ => fresh_channel(),
     }
-    fresh_channel()
 }
 
 // Whether the number is live for another peer.
@@ -121,7 +83,7 @@ pub fn number_taken(time: u64, number: u16, peer: TransportAddress, channels: [C
 {
     let found = channel_by_number(time, number, channels);
     let channel = channel_at(found, channels);
-    both(has(found), !same_transport_address(channel.peer, peer))
+    both(found.is_some(), channel.peer != peer)
 }
 
 // Whether the peer is live on another number.
@@ -130,46 +92,38 @@ pub fn peer_taken(time: u64, number: u16, peer: TransportAddress, channels: [Cha
 {
     let found = channel_by_peer(time, peer, channels);
     let channel = channel_at(found, channels);
-    both(has(found), channel.number != number)
+    both(found.is_some(), channel.number != number)
+}
+
+// The lowest channel that isn't live.
+fn lowest_free(time: u64, channels: [Channel; 8]) -> Option<usize>
+    ensures { result ≡ find (free_channel time) channels }
+{
+    channels
+        .iter()
+        .position(|channel| !channel_is_live(time, *channel))
 }
 
 // The entry for a number: its live channel, or else the lowest that isn't live.
-pub(crate) fn channel_entry(time: u64, number: u16, channels: [Channel; 8]) -> Found
+pub(crate) fn channel_entry(time: u64, number: u16, channels: [Channel; 8]) -> Option<usize>
     ensures { result ≡ channel_entry time number channels }
 {
     let live = channel_by_number(time, number, channels);
-    let free = search_channels(time, ChannelWanted::Free, channels);
-    or_else(live, free)
+    let free = lowest_free(time, channels);
+    live.or(free)
 }
 
-// The channels with this one at the place found.
-fn place_channel(entry: Found, channel: Channel, channels: [Channel; 8]) -> [Channel; 8]
-    ensures { result ≡ put_at entry channel channels }
-{
-    let mut placed = channels;
-    if let Found::At(i) = entry {
-        if i < 8 {
-            placed[i] = channel;
-        }
-    }
-    placed
-}
-
-// The slot with a channel of that number for the peer that lasts 600 seconds from now.
-pub fn bind(time: u64, number: u16, peer: TransportAddress, slot: Slot) -> Placed
+// The slot with a channel of that number for the peer that lasts 600 seconds from now, where there is room for it.
+pub fn bind(time: u64, number: u16, peer: TransportAddress, slot: Slot) -> Option<Slot>
     requires { time ≤ 2 ^ 40 }
-    ensures { result ≡ bind time number peer slot }
+    ensures { result ≡ made (bind time number peer slot) }
 {
-    let held = slot.channels;
-    let entry = channel_entry(time, number, held);
-    let channel = Channel {
+    let entry = channel_entry(time, number, slot.channels)?;
+    let mut bound = slot;
+    bound.channels[entry] = Channel {
         number,
         peer,
         expiry: time + 600,
     };
-    let channels = place_channel(entry, channel, held);
-    Placed {
-        ok: has(entry),
-        slot: with_channels(slot, channels),
-    }
+    Some(bound)
 }

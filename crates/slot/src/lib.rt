@@ -4,8 +4,7 @@
 #![tactic(auto)]
 
 ghost use Rattle.std.specs.Prelude.{◌≡◌};
-ghost use Rattle.slot.specs.Search.{has, or_else};
-ghost use Rattle.slot.specs.Slot.{live, fresh_transport_address, fresh_transaction_id, fresh_slot, with_allocation, with_transaction_id, with_permissions, with_channels};
+ghost use Rattle.slot.specs.Slot.{live, fresh_transport_address, fresh_transaction_id, fresh_slot};
 
 use address::{Address, FiveTuple, TransactionId, TransportAddress};
 use allocations::fresh_allocation;
@@ -50,46 +49,11 @@ pub struct Slot {
     pub channels: [Channel; 8],
 }
 
-// What a search finds: the place of an entry, or nothing.
-#[derive(Clone, Copy)]
-pub enum Found {
-    At(usize),
-    Nothing,
-}
-
-// The slot after an entry was taken. `ok` is false where there is no room, and the slot then is as it was.
-#[derive(Clone, Copy)]
-pub struct Placed {
-    pub ok: bool,
-    pub slot: Slot,
-}
-
 // Whether a thing with that expiry is live; at the moment of expiry it is not.
 pub(crate) fn is_live(time: u64, expiry: u64) -> bool
     ensures { result ≡ live time expiry }
 {
     time < expiry
-}
-
-// Whether a search found one.
-pub fn has(found: Found) -> bool
-    ensures { result ≡ has found }
-{
-    if let Found::At(_) = found {
-        true
-    } else {
-        false
-    }
-}
-
-// What the first search found, or else the second.
-pub fn or_else(first: Found, second: Found) -> Found
-    ensures { result ≡ or_else first second }
-{
-    match first {
-        Found::At(place) => Found::At(place),
-        Found::Nothing => second,
-    }
 }
 
 // Port 0 of IPv4 0.0.0.0.
@@ -127,40 +91,4 @@ pub fn fresh_slot() -> Slot
         permissions,
         channels,
     }
-}
-
-// The slot with this allocation in place of its own.
-pub fn with_allocation(slot: Slot, allocation: Allocation) -> Slot
-    ensures { result ≡ with_allocation slot allocation }
-{
-    let mut made = slot;
-    made.allocation = allocation;
-    made
-}
-
-// The slot with this transaction id in place of its own.
-pub fn with_transaction_id(slot: Slot, transaction_id: TransactionId) -> Slot
-    ensures { result ≡ with_transaction_id slot transaction_id }
-{
-    let mut made = slot;
-    made.transaction_id = transaction_id;
-    made
-}
-
-// The slot with these permissions in place of its own.
-pub fn with_permissions(slot: Slot, permissions: [Permission; 8]) -> Slot
-    ensures { result ≡ with_permissions slot permissions }
-{
-    let mut made = slot;
-    made.permissions = permissions;
-    made
-}
-
-// The slot with these channels in place of its own.
-pub fn with_channels(slot: Slot, channels: [Channel; 8]) -> Slot
-    ensures { result ≡ with_channels slot channels }
-{
-    let mut made = slot;
-    made.channels = channels;
-    made
 }

@@ -1,11 +1,11 @@
 // A slot's permissions: fresh, live, the one for an IP address, what is known of an IP address, and the entry that takes one.
 ghost use Rattle.std.specs.Prelude.{◌≡◌, ◌≤◌, ◌^◌};
-ghost use Rattle.slot.specs.Search.{find, put_at};
-ghost use Rattle.slot.specs.Slot.{fresh_permission, live_permission, permits, permission_state, permission_entry, permit};
-ghost use Rattle.slot.specs.Inner.{permission_meets};
+ghost use Rattle.slot.specs.Search.{find};
+ghost use Rattle.slot.specs.Slot.{fresh_permission, live_permission, free_permission, permits, permission_state, permission_entry, permit};
+ghost use Rattle.slot.specs.Inner.{made};
 
-use crate::{Found, Permission, Placed, Slot, has, is_live, or_else, with_permissions};
-use address::{Address, same_address};
+use crate::{Permission, Slot, is_live};
+use address::Address;
 use choice::both;
 
 // What the permissions say of an IP address: one is live for it, or one was, or there is none for it.
@@ -14,13 +14,6 @@ pub enum PermissionState {
     Live,
     Lapsed,
     Never,
-}
-
-// What a search of the permissions looks for: one that is live for an IP address, or one that isn't live.
-#[derive(Clone, Copy)]
-enum PermissionWanted {
-    For(Address),
-    Free,
 }
 
 pub(crate) fn fresh_permission() -> Permission
@@ -40,43 +33,23 @@ pub fn permission_is_live(time: u64, permission: Permission) -> bool
 pub(crate) fn permits(time: u64, address: Address, permission: Permission) -> bool
     ensures { result ≡ permits time address permission }
 {
-    let permitted = permission.address;
     both(
         permission_is_live(time, permission),
-        same_address(permitted, address),
+        permission.address == address,
     )
 }
 
-// Whether the permission is one that the search looks for.
-fn permission_meets(time: u64, wanted: PermissionWanted, permission: Permission) -> bool
-    ensures { result ≡ permission_meets time wanted permission }
-{
-    match wanted {
-        PermissionWanted::For(address) => permits(time, address, permission),
-        PermissionWanted::Free => !permission_is_live(time, permission),
-    }
-}
-
-// The lowest permission that is wanted.
-fn search_permissions(time: u64, wanted: PermissionWanted, permissions: [Permission; 8]) -> Found
-    ensures { result ≡ find (permission_meets time wanted) permissions }
-{
-    let mut i: usize = 0;
-    while i < 8 {
-        let permission = permissions[i];
-        if permission_meets(time, wanted, permission) {
-            return Found::At(i);
-        }
-        i += 1;
-    }
-    Found::Nothing
-}
-
 // The lowest live permission for the IP address.
-pub(crate) fn find_permission(time: u64, address: Address, permissions: [Permission; 8]) -> Found
+pub(crate) fn find_permission(
+    time: u64,
+    address: Address,
+    permissions: [Permission; 8],
+) -> Option<usize>
     ensures { result ≡ find (permits time address) permissions }
 {
-    search_permissions(time, PermissionWanted::For(address), permissions)
+    permissions
+        .iter()
+        .position(|permission| permits(time, address, *permission))
 }
 
 // What the permissions say of the IP address. An entry with an expiry above 0 is one that is live at 0.
@@ -87,55 +60,47 @@ pub fn permission_state(
 ) -> PermissionState
     ensures { result ≡ permission_state time address permissions }
 {
-    if has(find_permission(time, address, permissions)) {
+    if find_permission(time, address, permissions).is_some() {
         return PermissionState::Live;
     }
-    if has(find_permission(0, address, permissions)) {
+    if find_permission(0, address, permissions).is_some() {
         return PermissionState::Lapsed;
     }
     PermissionState::Never
 }
 
+// The lowest permission that isn't live.
+fn lowest_free(time: u64, permissions: [Permission; 8]) -> Option<usize>
+    ensures { result ≡ find (free_permission time) permissions }
+{
+    permissions
+        .iter()
+        .position(|permission| !permission_is_live(time, *permission))
+}
+
 // The entry for an IP address: its live permission, or else the lowest that isn't live.
-pub(crate) fn permission_entry(time: u64, address: Address, permissions: [Permission; 8]) -> Found
+pub(crate) fn permission_entry(
+    time: u64,
+    address: Address,
+    permissions: [Permission; 8],
+) -> Option<usize>
     ensures { result ≡ permission_entry time address permissions }
 {
     let live = find_permission(time, address, permissions);
-    let free = search_permissions(time, PermissionWanted::Free, permissions);
-    or_else(live, free)
+    let free = lowest_free(time, permissions);
+    live.or(free)
 }
 
-// The permissions with this one at the place found.
-fn place_permission(
-    entry: Found,
-    permission: Permission,
-    permissions: [Permission; 8],
-) -> [Permission; 8]
-    ensures { result ≡ put_at entry permission permissions }
-{
-    let mut placed = permissions;
-    if let Found::At(i) = entry {
-        if i < 8 {
-            placed[i] = permission;
-        }
-    }
-    placed
-}
-
-// The slot with a permission for the IP address that lasts 300 seconds from now.
-pub fn permit(time: u64, address: Address, slot: Slot) -> Placed
+// The slot with a permission for the IP address that lasts 300 seconds from now, where there is room for it.
+pub fn permit(time: u64, address: Address, slot: Slot) -> Option<Slot>
     requires { time ≤ 2 ^ 40 }
-    ensures { result ≡ permit time address slot }
+    ensures { result ≡ made (permit time address slot) }
 {
-    let held = slot.permissions;
-    let entry = permission_entry(time, address, held);
-    let permission = Permission {
+    let entry = permission_entry(time, address, slot.permissions)?;
+    let mut permitted = slot;
+    permitted.permissions[entry] = Permission {
         address,
         expiry: time + 300,
     };
-    let permissions = place_permission(entry, permission, held);
-    Placed {
-        ok: has(entry),
-        slot: with_permissions(slot, permissions),
-    }
+    Some(permitted)
 }

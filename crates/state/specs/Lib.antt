@@ -1,3 +1,4 @@
+pub mod Inner
 pub mod Outcomes
 pub mod State
 pub mod Step

@@ -5,7 +5,6 @@ use Rattle.slot.specs.Slot.{fresh_slot}
 use Rattle.denied.specs.Tree.{none_denied}
 use Rattle.denied.specs.Denied.{read_denied}
 use Rattle.state.specs.declared.Bookkeeping.{Bookkeeping}
-use Rattle.state.specs.declared.Denying.{Denying}
 
 pub record State : Type 0 where
   pub slots : List Slot
@@ -39,6 +38,12 @@ with_denied nodes bookkeeping = record { clock = bookkeeping.clock; denied = nod
 -- the same state, where it meets that tree
 abbrev pub meeting : (nodes : List ℕ) → State → State
 meeting nodes st = state st.slots (with_denied nodes st.bookkeeping)
+
+-- what became of a text of denied prefixes: the number that it is refused with, or 0; how many nodes its tree has; and what is kept afterwards
+pub record Denying : Type 0 where
+  pub number : ℕ
+  pub count : ℕ
+  pub bookkeeping : Bookkeeping
 
 -- request 2: a text of denied prefixes is read between calls, and its tree takes the old one's place, unless it is refused
 abbrev pub denying : Bookkeeping → (text : List ℕ) → Denying

@@ -1,8 +1,7 @@
 -- One step of the relay: from the state, a call, its datagram and its reply buffer, what it does. Every entry's promise is stated by it.
-use Rattle.std.specs.Prelude.{ℕ, List, eqb, length, set}
-use Rattle.choice.specs.Choice.{pick}
-use Rattle.slot.specs.declared.Found.{Found}
-use Rattle.slot.specs.declared.Found.TheVariants.{At, Nothing}
+use Rattle.std.specs.Prelude.{ℕ, List, length, set, Option, Some, None}
+use Rattle.refusal.specs.declared.Refusal.{Refusal}
+use Rattle.refusal.specs.Refusal.{numbered}
 use Rattle.rules.specs.declared.answer.Outcome.{Outcome}
 use Rattle.rules.specs.Change.{Change, keep, write, out_of}
 use Rattle.interface.specs.declared.incoming.Call.{Call}
@@ -14,10 +13,10 @@ use Rattle.decisions.specs.Decisions.{Decision, names_denied, decided}
 -- ---- The act
 
 -- where no slot was found there is none to write
-abbrev pub done : State → Found → Change → Act
-done st (At k) (keep out) = accept st out
-done st (At k) (write slot out) = accept (with_slots (set st.slots k slot) st) out
-done st Nothing change = accept st (out_of change)
+abbrev pub done : State → Option ℕ → Change → Act
+done st (Some k) (keep out) = accept st out
+done st (Some k) (write slot out) = accept (with_slots (set st.slots k slot) st) out
+done st None change = accept st (out_of change)
 
 -- what is decided in a state
 abbrev pub decision : State → Call → List ℕ → Decision
@@ -27,11 +26,14 @@ decision st call s = decided (names_denied st.bookkeeping.denied call s) call s 
 unfoldable pub accepted : State → Call → List ℕ → Act
 accepted st call s = done (at_time (time_of call) st) (decision st call s).place (decision st call s).change
 
+-- a call that gets a refusal is refused
+abbrev pub refused_or : Option Refusal → Act → Act
+refused_or (Some refusal) accepted = refuse refusal
+refused_or None accepted = accepted
+
 -- what a call with this datagram and a reply buffer of this length does
 unfoldable pub act : State → Call → List ℕ → ℕ → Act
-act st call s reply =
-    let number = refusal (clock_of st) (lengths (length st.slots) (length s) reply) call in
-    pick (eqb number 0) (accepted st call s) (refuse number)
+act st call s reply = refused_or (numbered (refusal (clock_of st) (lengths (length st.slots) (length s) reply) call)) (accepted st call s)
 
 -- what an entry promises
 abbrev pub Stepped : (before : State) → Call → (datagram : List ℕ) → Outcome → (after : State) → (reply reply' : List ℕ) → Type 0

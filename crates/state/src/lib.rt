@@ -2,11 +2,13 @@
 // functions that take the step are the relay's.
 #![tactic(auto)]
 
-ghost use Rattle.std.specs.Prelude.{◌≡◌};
+ghost use Rattle.std.specs.Prelude.{◌≡◌, OnErr};
 ghost use Rattle.state.specs.State.{fresh_bookkeeping, at_clock, denying};
+ghost use Rattle.state.specs.Inner.{Denied};
 
 use denied::read_denied;
 use denied::tree::none_denied;
+use refusal::Refusal;
 
 // The clock, the time of the last call that was not refused; and the tree of denied prefixes, which no call changes.
 #[derive(Clone, Copy)]
@@ -29,28 +31,10 @@ pub fn set_clock(bookkeeping: &mut Bookkeeping, time: u64)
     bookkeeping.clock = time;
 }
 
-// What became of a text of denied prefixes: the number that it is refused with, or 0; how many nodes its tree has; and what is kept afterwards.
-#[derive(Clone, Copy)]
-pub struct Denying {
-    pub number: u8,
-    pub count: usize,
-    pub bookkeeping: Bookkeeping,
-}
-
-// Reads such a text, between calls. A text that is refused changes nothing.
-pub fn deny(bookkeeping: Bookkeeping, text: &[u8]) -> Denying
-    ensures { result ≡ denying bookkeeping text.now }
+// Reads a text of denied prefixes, between calls; how many nodes its tree has. A text that is refused changes nothing.
+pub fn deny(bookkeeping: &mut Bookkeeping, text: &[u8]) -> Result<usize, Refusal>
+    ensures gives { Denied (denying bookkeeping.old text.now) result bookkeeping.new }
+    ensures refused { OnErr result (bookkeeping.new ≡ bookkeeping.old) }
 {
-    let old = bookkeeping.denied;
-    let reading = read_denied(text, old);
-    let denied = reading.nodes;
-    let kept = Bookkeeping {
-        clock: bookkeeping.clock,
-        denied,
-    };
-    Denying {
-        number: reading.number,
-        count: reading.count,
-        bookkeeping: kept,
-    }
+    read_denied(&mut bookkeeping.denied, text)
 }

@@ -1,27 +1,25 @@
 -- The laws of the walk over attributes, of the reading of attributes one by one, and of what the loops over them keep.
 use Prim.Native.Nat.{ℕ, zero, suc, ◌+◌, ◌-◌, ◌≤◌, ◌<◌}
 use mathlib.Core.Path.{◌≡◌, refl, sym, ap, subst, ◌∙◌}
+use mathlib.Core.Logic.{◌⊎◌}
 use mathlib.Core.List.{List, [], ◌∷◌, ◌++◌, append_assoc, append-nil}
-use mathlib.Core.Bool.{Bool, true, false, ◌&&◌}
+use mathlib.Core.Bool.{Bool, true, false, ◌&&◌, cond}
 use lib.ListN.{length, take, replicate, set, length-append}
 use lib.Seq.{take_at, take_all, set_at}
 use lib.Dec.{leb, eqb}
 use native.Mathlib.Omega.{arith}
 use borrow.Author.Tests.{le-leb, leb-true, eq-eqb, ne_eqb}
+use Rattle.std.proofs.Common.{Option, Some, None, MatchOption, ⊎_elim}
+use Rattle.std.specs.List.{find, All}
+use Rattle.std.proofs.lemmas.List.Elements.{All-nil, All-cons, All-head, All-tail}
 use Rattle.choice.specs.Choice.{pick}
 use Rattle.stun.specs.declared.message.Attribute.{Attribute}
 use Rattle.stun.specs.declared.message.Step.{Step}
 use Rattle.stun.specs.declared.message.Step.TheVariants.{One, End, Short}
-use Rattle.stun.specs.declared.message.Reading.{Reading}
-use Rattle.stun.specs.declared.message.Reading.TheVariants as Read
-use Rattle.stun.specs.declared.message.ValuePlace.TheVariants.{Value, Absent}
 use Rattle.stun.specs.declared.message.UnknownTypes.{UnknownTypes}
-use Rattle.stun.specs.declared.values.AddressValue.{AddressValue}
-use Rattle.stun.specs.declared.values.PeerReading.{PeerReading}
-use Rattle.stun.specs.declared.values.PeerReading.TheVariants as Peer
 use Rattle.stun.specs.Message.{next_at, attribute_at, step_at, after, walk_f, walk, is_integrity, is_unknown, attributes_from, attributes, first_of, unknown_numbers, unknown_types}
-use Rattle.stun.specs.Inner.{unknowns, read_from, Onward, Next, peers_read, PeerOnward, NextPeer}
-use Rattle.stun.specs.Values.{address_at, peers_of, peers_from}
+use Rattle.stun.specs.Inner.{unknowns, Within}
+use Rattle.stun.specs.Values.{address_at, peers_of}
 
 -- ---- The walk: an attribute, and then the walk from the next position. Nothing else looks at the bound.
 module _ {R : Type 0} (one : Attribute → R → R) (fin bad : R) where
@@ -76,102 +74,95 @@ step_on s at {a} {x} e = go (leb (length s) at) (leb (at + 4) (length s)) (leb (
 
 -- ---- The attributes that are read, one by one
 module _ (s : List ℕ) (at : ℕ) where
-  pub read_end : step_at s at ≡ End → Next s at Read.Done
+  pub read_end : step_at s at ≡ End → attributes_from s at ≡ []
   unfolding attributes_from
-  read_end e = record { is = walk_by _ _ _ s at e; on = tt }
+  read_end e = walk_by _ _ _ s at e
 
-  pub read_short : step_at s at ≡ Short → Next s at Read.Done
+  pub read_short : step_at s at ≡ Short → attributes_from s at ≡ []
   unfolding attributes_from
-  read_short e = record { is = walk_by _ _ _ s at e; on = tt }
+  read_short e = walk_by _ _ _ s at e
 
   module _ {a : Attribute} {x : ℕ} (e : step_at s at ≡ One a x) where
     told : attributes_from s at ≡ pick (is_integrity a.number) [] (a ∷ attributes_from s x)
     unfolding attributes_from
     told = walk_by _ _ _ s at e
 
-    pub read_stop : is_integrity a.number ≡ true → Next s at Read.Done
-    read_stop t = record { is = rw t at told; on = tt }
+    pub read_stop : is_integrity a.number ≡ true → attributes_from s at ≡ []
+    read_stop t = rw t at told
 
-    pub read_one : is_integrity a.number ≡ false → Next s at (Read.One a x)
-    read_one f = record { is = rw f at told; on = step_on s at e }
+    pub read_one : is_integrity a.number ≡ false → attributes_from s at ≡ a ∷ attributes_from s x
+    read_one f = rw f at told
 
-module _ {s : List ℕ} {at : ℕ} {o : Reading} (h : Next s at o) where
-  pub none_left : o ≡ Read.Done → attributes_from s at ≡ []
-  none_left e = h.is ∙ ap (read_from s) e
+-- nothing is read where no attribute stands, or none that fits
+pub read_over : (s : List ℕ) (at : ℕ) → (step_at s at ≡ End) ⊎ (step_at s at ≡ Short) → attributes_from s at ≡ []
+read_over s at e = ⊎_elim (read_end s at) (read_short s at) e
 
-  pub one_left : {a : Attribute} {x : ℕ} → o ≡ Read.One a x → attributes_from s at ≡ a ∷ attributes_from s x
-  one_left e = h.is ∙ ap (read_from s) e
-
-  pub onward : {a : Attribute} {x : ℕ} → o ≡ Read.One a x → (at < x) × (x ≤ length s) × (a.start + a.len ≤ length s)
-  onward e = subst (Onward s at) e h.on
-
--- ---- The first attribute of a type: the answer from here on is the whole answer
-pub record Seeking (number : ℕ) (s : List ℕ) (at : ℕ) : Type 0 where
-  pub is : first_of number (attributes s) ≡ first_of number (attributes_from s at)
-
-module _ {number : ℕ} {s : List ℕ} {at : ℕ} {o : Reading} (i : Seeking number s at) (h : Next s at o) where
-  pub seek_end : o ≡ Read.Done → Absent ≡ first_of number (attributes s)
-  unfolding first_of
-  seek_end e = sym (i.is ∙ ap (first_of number) (none_left h e))
-
-  module _ {a : Attribute} {x : ℕ} (e : o ≡ Read.One a x) where
-    told_first : first_of number (attributes s) ≡ pick (eqb a.number number) (Value a.start a.len) (first_of number (attributes_from s x))
-    unfolding first_of
-    told_first = i.is ∙ ap (first_of number) (one_left h e)
-
-    pub seek_here : a.number ≡ number → Value a.start a.len ≡ first_of number (attributes s)
-    seek_here p = sym (rw (eq-eqb _ _ p) at told_first)
-
-    pub seek_on : (a.number ≡ number → ⊥) → Seeking number s x
-    seek_on p = record { is = rw (ne_eqb _ _ p) at told_first }
-
--- ---- The value of the first attribute of a type lies within the message
-abbrev Within : List ℕ → List Attribute → Type 0
-Within s [] = Unit
-Within s (a ∷ rest) = (a.start + a.len ≤ length s) × Within s rest
-
-within : (s : List ℕ) (f at : ℕ) → Within s (walk_f (λ a rest. pick (is_integrity a.number) [] (a ∷ rest)) [] [] f s at)
+-- ---- The values of the attributes that are read lie within the message
+within : (s : List ℕ) (f at : ℕ) → All (λ (a : Attribute). a.start + a.len ≤ length s) (walk_f (λ a rest. pick (is_integrity a.number) [] (a ∷ rest)) [] [] f s at)
 unfolding walk_f
-within s zero at = tt
+within s zero at = All-nil _
 within s (suc f) at = go (step_at s at) refl (within s f)
   where
+    In : Attribute → Type 0
+    In a = a.start + a.len ≤ length s
+
     Rest : ℕ → List Attribute
     Rest x = walk_f (λ a rest. pick (is_integrity a.number) [] (a ∷ rest)) [] [] f s x
 
-    kept : (b : Bool) (a : Attribute) (x : ℕ) → a.start + a.len ≤ length s → Within s (Rest x) → Within s (pick b [] (a ∷ Rest x))
-    kept true a x h t = tt
-    kept false a x h t = (h, t)
+    kept : (b : Bool) (a : Attribute) (x : ℕ) → In a → All In (Rest x) → All In (pick b [] (a ∷ Rest x))
+    kept true a x h t = All-nil In
+    kept false a x h t = All-cons In a (Rest x) h t
 
-    go : (o : Step) → step_at s at ≡ o → ((x : ℕ) → Within s (Rest x)) → Within s (after (λ a rest. pick (is_integrity a.number) [] (a ∷ rest)) [] [] o Rest)
+    go : (o : Step) → step_at s at ≡ o → ((x : ℕ) → All In (Rest x)) → All In (after (λ a rest. pick (is_integrity a.number) [] (a ∷ rest)) [] [] o Rest)
     go (One a x) e ih = kept (is_integrity a.number) a x (step_on s at e).2 (ih x)
-    go End e ih = tt
-    go Short e ih = tt
+    go End e ih = All-nil In
+    go Short e ih = All-nil In
 
-pub first_in : (number : ℕ) (s : List ℕ) {start len : ℕ} → first_of number (attributes s) ≡ Value start len → start + len ≤ length s
-unfolding attributes_from walk first_of
-first_in number s {start} {len} e = go (attributes s) (within s (length s) 20) e
+pub within_all : (s : List ℕ) → Within s (attributes s)
+unfolding attributes_from walk
+within_all s = within s (length s) 20
+
+module _ (s : List ℕ) {l rest : List Attribute} {a : Attribute} (h : Within s l) (e : l ≡ a ∷ rest) where
+  pub within_here : a.start + a.len ≤ length s
+  within_here = All-head (λ (a : Attribute). a.start + a.len ≤ length s) a rest (subst (Within s) e h)
+
+  pub within_on : Within s rest
+  within_on = All-tail (λ (a : Attribute). a.start + a.len ≤ length s) a rest (subst (Within s) e h)
+
+-- what is left after a step
+pub within_left : (s : List ℕ) (before after : List Attribute) (r : Option Attribute)
+    → MatchOption r ((before ≡ []) × (after ≡ [])) (λ a. before ≡ a ∷ after) → Within s before → Within s after
+within_left s before after None e h = subst (Within s) (sym e.1) (All-nil _)
+within_left s before after (Some a) e h = within_on s h e
+
+pub first_in : (number : ℕ) (s : List ℕ) {a : Attribute} → first_of number (attributes s) ≡ Some a → a.start + a.len ≤ length s
+unfolding first_of
+first_in number s {a} e = go (attributes s) (within_all s) e
   where
-    go : (l : List Attribute) → Within s l → first_of number l ≡ Value start len → start + len ≤ length s
-    go [] w e = let z : ◌≡◌ {A = ℕ} 0 1 = cc in omega arith
-    go (a ∷ rest) w e = here (eqb a.number number) e (go rest w.1)
+    In : Attribute → Type 0
+    In x = x.start + x.len ≤ length s
+
+    go : (l : List Attribute) → All In l → find (λ (x : Attribute). eqb x.number number) l ≡ Some a → In a
+    go [] w e = let z : ◌≡◌ {A = ℕ} 0 1 = cc in let y : ⊥ = omega arith in absurd y
+    go (x ∷ rest) w e = here (eqb x.number number) e (go rest (All-tail In x rest w))
       where
-        here : (b : Bool) → pick b (Value a.start a.len) (first_of number rest) ≡ Value start len
-            → (first_of number rest ≡ Value start len → start + len ≤ length s) → start + len ≤ length s
-        here true q ih = let y : a.start ≡ start = cc in let z : a.len ≡ len = cc in omega (arith, w.0)
+        here : (b : Bool) → cond b (Some x) (find (λ (y : Attribute). eqb y.number number) rest) ≡ Some a
+            → (find (λ (y : Attribute). eqb y.number number) rest ≡ Some a → In a) → In a
+        here true q ih = let y : x ≡ a = cc in subst In y (All-head In x rest w)
         here false q ih = ih q
 
 -- ---- The unknown types: those met so far, and what the rest gives
-pub record Listed (s types : List ℕ) (count at : ℕ) : Type 0 where
+pub record Listed (s types : List ℕ) (count : ℕ) (left : List Attribute) : Type 0 where
   pub met : List ℕ
   pub size : length met ≡ count
   pub few : count ≤ 16
   pub held : types ≡ met ++ replicate (16 - count) 0
-  pub rest : unknown_numbers (attributes s) ≡ met ++ unknown_numbers (attributes_from s at)
+  pub rest : unknown_numbers (attributes s) ≡ met ++ unknown_numbers left
 
-pub listed_none : (s : List ℕ) → Listed s (replicate 16 0) 0 20
+pub listed_none : (s : List ℕ) → Listed s (replicate 16 0) 0 (attributes s)
 listed_none s = record { met = []; size = refl; few = omega arith; held = refl; rest = refl }
 
-module _ {s types : List ℕ} {count at : ℕ} (i : Listed s types count at) where
+module _ {s types : List ℕ} {count : ℕ} {left : List Attribute} (i : Listed s types count left) where
   listed : unknown_types s ≡ i.met → ◌≡◌ {A = UnknownTypes} (record { types = types; count = count }) (unknowns s)
   unfolding unknowns
   listed e =
@@ -181,67 +172,45 @@ module _ {s types : List ℕ} {count at : ℕ} (i : Listed s types count at) whe
 
   pub listed_full : 16 ≤ count → ◌≡◌ {A = UnknownTypes} (record { types = types; count = count }) (unknowns s)
   unfolding unknown_types
-  listed_full h = listed (ap (take 16) i.rest ∙ take_at i.met (unknown_numbers (attributes_from s at)) 16 (i.size ∙ omega (arith, i.few)))
+  listed_full h = listed (ap (take 16) i.rest ∙ take_at i.met (unknown_numbers left) 16 (i.size ∙ omega (arith, i.few)))
 
-  module _ {o : Reading} (h : Next s at o) where
-    pub listed_end : o ≡ Read.Done → ◌≡◌ {A = UnknownTypes} (record { types = types; count = count }) (unknowns s)
-    unfolding unknown_types unknown_numbers
-    listed_end e =
-        let r : unknown_numbers (attributes s) ≡ i.met = i.rest ∙ ap (λ (l : List Attribute). i.met ++ unknown_numbers l) (none_left h e) ∙ append-nil i.met in
-        listed (rw r (take_all 16 i.met (omega (arith, i.size, i.few))))
+  pub listed_end : left ≡ [] → ◌≡◌ {A = UnknownTypes} (record { types = types; count = count }) (unknowns s)
+  unfolding unknown_types unknown_numbers
+  listed_end e =
+      let r : unknown_numbers (attributes s) ≡ i.met = i.rest ∙ ap (λ (l : List Attribute). i.met ++ unknown_numbers l) e ∙ append-nil i.met in
+      listed (rw r (take_all 16 i.met (omega (arith, i.size, i.few))))
 
-    module _ {a : Attribute} {x : ℕ} (e : o ≡ Read.One a x) where
-      told_unknown : unknown_numbers (attributes s) ≡ i.met ++ pick (is_unknown a.number) (a.number ∷ unknown_numbers (attributes_from s x)) (unknown_numbers (attributes_from s x))
-      unfolding unknown_numbers
-      told_unknown = i.rest ∙ ap (λ (l : List Attribute). i.met ++ unknown_numbers l) (one_left h e)
+  module _ {a : Attribute} {rest : List Attribute} (e : left ≡ a ∷ rest) where
+    told_unknown : unknown_numbers (attributes s) ≡ i.met ++ pick (is_unknown a.number) (a.number ∷ unknown_numbers rest) (unknown_numbers rest)
+    unfolding unknown_numbers
+    told_unknown = i.rest ∙ ap (λ (l : List Attribute). i.met ++ unknown_numbers l) e
 
-      pub listed_skip : is_unknown a.number ≡ false → Listed s types count x
-      listed_skip f = record { met = i.met; size = i.size; few = i.few; held = i.held; rest = rw f at told_unknown }
+    pub listed_skip : is_unknown a.number ≡ false → Listed s types count rest
+    listed_skip f = record { met = i.met; size = i.size; few = i.few; held = i.held; rest = rw f at told_unknown }
 
-      pub listed_more : is_unknown a.number ≡ true → count < 16 → Listed s (set types count a.number) (count + 1) x
-      listed_more t l = record {
-        met = i.met ++ a.number ∷ [];
-        size = rw length-append (omega (arith, i.size));
-        few = omega arith;
-        held =
-            let z : 16 - count ≡ suc (16 - (count + 1)) = omega arith in
-            ap (λ (l : List ℕ). set l count a.number) (i.held ∙ ap (λ (k : ℕ). i.met ++ replicate k 0) z)
-            ∙ set_at i.met 0 (replicate (16 - (count + 1)) 0) a.number count i.size
-            ∙ sym (append_assoc i.met (a.number ∷ []) (replicate (16 - (count + 1)) 0));
-        rest = (rw t at told_unknown) ∙ sym (append_assoc i.met (a.number ∷ []) (unknown_numbers (attributes_from s x)));
-      }
-
--- ---- The next peer address: a loop keeps `SamePeers`
-pub record SamePeers (s : List ℕ) (from at : ℕ) : Type 0 where
-  pub is : peers_from s from ≡ peers_from s at
-  pub le : from ≤ at
-
-module _ {s : List ℕ} {from at : ℕ} {o : Reading} (i : SamePeers s from at) (h : Next s at o) where
-  pub peers_end : o ≡ Read.Done → NextPeer s from Peer.Done
-  unfolding peers_from peers_of
-  peers_end e = record { is = i.is ∙ ap (peers_of s) (none_left h e); on = tt }
-
-  module _ {a : Attribute} {x : ℕ} (e : o ≡ Read.One a x) where
-    told-peers : peers_from s from ≡ pick (eqb a.number 0x0012) (address_at s a.start a.len ∷ peers_from s x) (peers_from s x)
-    unfolding peers_from peers_of
-    told-peers = i.is ∙ ap (peers_of s) (one_left h e)
-
-    pub peer_here : a.number ≡ 0x0012 → {v : AddressValue} → v ≡ address_at s a.start a.len → NextPeer s from (Peer.One v x)
-    peer_here p q = record {
-      is = (rw (eq-eqb _ _ p) at told-peers) ∙ ap (λ (v : AddressValue). v ∷ peers_from s x) (sym q);
-      on = (let l = onward h e in (omega (arith, i.le), l.1));
+    pub listed_more : is_unknown a.number ≡ true → count < 16 → Listed s (set types count a.number) (count + 1) rest
+    listed_more t l = record {
+      met = i.met ++ a.number ∷ [];
+      size = rw length-append (omega (arith, i.size));
+      few = omega arith;
+      held =
+          let z : 16 - count ≡ suc (16 - (count + 1)) = omega arith in
+          ap (λ (l : List ℕ). set l count a.number) (i.held ∙ ap (λ (k : ℕ). i.met ++ replicate k 0) z)
+          ∙ set_at i.met 0 (replicate (16 - (count + 1)) 0) a.number count i.size
+          ∙ sym (append_assoc i.met (a.number ∷ []) (replicate (16 - (count + 1)) 0));
+      rest = (rw t at told_unknown) ∙ sym (append_assoc i.met (a.number ∷ []) (unknown_numbers rest));
     }
 
-    pub peers_skip : (a.number ≡ 0x0012 → ⊥) → SamePeers s from x
-    peers_skip p = record { is = rw (ne_eqb _ _ p) at told-peers; le = (let l = onward h e in omega (arith, i.le)) }
+-- ---- The peer addresses, one by one
+module _ (s : List ℕ) {l rest : List Attribute} {a : Attribute} (e : l ≡ a ∷ rest) where
+  pub peer_here : a.number ≡ 0x0012 → peers_of s l ≡ address_at s a.start a.len ∷ peers_of s rest
+  unfolding peers_of
+  peer_here p = rw (e, eq-eqb _ _ p)
 
--- ---- What a loop over the peer addresses learns at each turn
-module _ {s : List ℕ} {at : ℕ} {o : PeerReading} (h : NextPeer s at o) where
-  pub no_peer_left : o ≡ Peer.Done → peers_from s at ≡ []
-  no_peer_left e = h.is ∙ ap (peers_read s) e
+  pub peer_skip : (a.number ≡ 0x0012 → ⊥) → peers_of s l ≡ peers_of s rest
+  unfolding peers_of
+  peer_skip p = rw (e, ne_eqb _ _ p)
 
-  pub one_peer_left : {v : AddressValue} {x : ℕ} → o ≡ Peer.One v x → peers_from s at ≡ v ∷ peers_from s x
-  one_peer_left e = h.is ∙ ap (peers_read s) e
-
-  pub peer_onward : {v : AddressValue} {x : ℕ} → o ≡ Peer.One v x → (at < x) × (x ≤ length s)
-  peer_onward e = subst (PeerOnward s at) e h.on
+pub no_peers : (s : List ℕ) {l : List Attribute} → l ≡ [] → peers_of s l ≡ []
+unfolding peers_of
+no_peers s e = rw e

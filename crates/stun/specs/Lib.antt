@@ -3,3 +3,4 @@ pub mod Kinds
 pub mod Message
 pub mod Values
 pub mod Inner
+pub mod Peers

@@ -1,16 +1,14 @@
 -- Document 01's 'Reading a client's datagram': the sorting, the layout of a STUN message, and the attributes that are read.
-use Rattle.std.specs.Prelude.{ℕ, zero, suc, ◌+◌, ◌-◌, ◌*◌, ◌/◌, ◌%◌, List, [], ◌∷◌, Bool, true, false, ◌&&◌, length, get_or, take, leb, eqb}
+use Rattle.std.specs.Prelude.{ℕ, zero, suc, ◌+◌, ◌-◌, ◌*◌, ◌/◌, ◌%◌, List, [], ◌∷◌, Bool, true, false, ◌&&◌, length, get_or, take, leb, eqb, Option, Some, None}
+use Rattle.std.specs.List.{find}
 use Rattle.wire.specs.Wire.{num}
 use Rattle.choice.specs.Choice.{pick}
 use Rattle.stun.specs.declared.kinds.Class.{Class}
 use Rattle.stun.specs.declared.kinds.Class.TheVariants.{Neither}
 use Rattle.stun.specs.declared.channel_data.ChannelMessage.{ChannelMessage}
-use Rattle.stun.specs.declared.channel_data.ChannelMessage.TheVariants.{Data, Malformed}
 use Rattle.stun.specs.declared.message.Attribute.{Attribute}
 use Rattle.stun.specs.declared.message.Step.{Step}
 use Rattle.stun.specs.declared.message.Step.TheVariants.{One, End, Short}
-use Rattle.stun.specs.declared.message.ValuePlace.{ValuePlace}
-use Rattle.stun.specs.declared.message.ValuePlace.TheVariants.{Value, Absent}
 use Rattle.stun.specs.AttributeNumbers as attribute
 use Rattle.stun.specs.Kinds.{cookie, class_of, attribute_kind_of, unknown_kind}
 
@@ -19,8 +17,9 @@ unfoldable pub sorted : List ℕ → Class
 sorted s = pick (eqb (length s) 0) Neither (class_of (get_or s 0 0))
 
 -- 'ChannelData: number, length, data; under 4 bytes, length over what follows ..: dropped; .. spare bytes are ignored'
-unfoldable pub channel_data_of : List ℕ → ChannelMessage
-channel_data_of s = pick (leb 4 (length s) && leb (4 + num s 2 2) (length s)) (Data (num s 0 2) 4 (num s 2 2)) Malformed
+unfoldable pub channel_data_of : List ℕ → Option ChannelMessage
+channel_data_of s =
+    pick (leb 4 (length s) && leb (4 + num s 2 2) (length s)) (Some (record { number = num s 0 2; start = 4; len = num s 2 2 })) None
 
 -- ---- The layout of a message
 
@@ -77,9 +76,8 @@ abbrev pub attributes : List ℕ → List Attribute
 attributes s = attributes_from s 20
 
 -- 'The first of a repeated attribute counts'
-unfoldable pub first_of : ℕ → List Attribute → ValuePlace
-first_of number [] = Absent
-first_of number (a ∷ rest) = pick (eqb a.number number) (Value a.start a.len) (first_of number rest)
+unfoldable pub first_of : ℕ → List Attribute → Option Attribute
+first_of number l = find (λ (a : Attribute). eqb a.number number) l
 
 unfoldable pub unknown_numbers : List Attribute → List ℕ
 unknown_numbers [] = []

@@ -3,9 +3,10 @@ ghost use Rattle.std.specs.Prelude.{◌≡◌};
 ghost use Rattle.stun.specs.Message.{sorted, channel_data_of};
 
 use crate::kinds::Class;
-use wire::u16_at;
+use wire::Number;
 
 // What a datagram is, by its first byte; an empty one is neither.
+#[tactic(auto, unfolding(crate::specs::Message::sorted))]
 pub fn sort(s: &[u8]) -> Class
     ensures { result ≡ sorted s.now }
 {
@@ -15,31 +16,29 @@ pub fn sort(s: &[u8]) -> Class
     Class::of(s[0])
 }
 
+// The channel's number, and where the data lies in the datagram.
 #[derive(Clone, Copy)]
-pub enum ChannelMessage {
-    // The channel's number, and where the data lies in the datagram.
-    Data {
-        number: u16,
-        start: usize,
-        len: usize,
-    },
-    Malformed,
+pub struct ChannelMessage {
+    pub number: u16,
+    pub start: usize,
+    pub len: usize,
 }
 
 // Spare bytes after the data are ignored.
-pub fn read_channel_data(s: &[u8]) -> ChannelMessage
+#[tactic(auto, unfolding(crate::specs::Message::channel_data_of))]
+pub fn read_channel_data(s: &[u8]) -> Option<ChannelMessage>
     ensures { result ≡ channel_data_of s.now }
 {
     if s.len() < 4 {
-        return ChannelMessage::Malformed;
+        return None;
     }
-    let n = u16_at(s, 2) as usize;
-    if s.len() - 4 < n {
-        return ChannelMessage::Malformed;
+    let len = u16::at(s, 2) as usize;
+    if s.len() - 4 < len {
+        return None;
     }
-    ChannelMessage::Data {
-        number: u16_at(s, 0),
+    Some(ChannelMessage {
+        number: u16::at(s, 0),
         start: 4,
-        len: n,
-    }
+        len,
+    })
 }

@@ -1,9 +1,9 @@
 // The kinds of datagrams, messages and attributes, with the numbers that stand for them.
 ghost use Rattle.std.specs.Prelude.{◌≡◌};
-ghost use Rattle.stun.specs.Kinds.{class_of, message_kind_of, attribute_kind_of, unknown_kind, success_type, error_type};
+ghost use Rattle.stun.specs.Kinds.{class_of, message_kind_of, attribute_kind_of, success_type, error_type};
 
 // What the first byte says of a datagram.
-#[derive(Clone, Copy)]
+#[derive(Clone, Copy, PartialEq, Eq)]
 pub enum Class {
     Stun,
     ChannelData,
@@ -23,7 +23,7 @@ impl Class {
 }
 
 // The methods that a client requests.
-#[derive(Clone, Copy)]
+#[derive(Clone, Copy, PartialEq, Eq)]
 pub enum Method {
     Allocate,
     Refresh,
@@ -55,7 +55,7 @@ impl Method {
     }
 }
 
-#[derive(Clone, Copy)]
+#[derive(Clone, Copy, PartialEq, Eq)]
 pub enum MessageKind {
     Request(Method),
     Success(Method),
@@ -119,7 +119,7 @@ impl MessageKind {
     }
 }
 
-#[derive(Clone, Copy)]
+#[derive(Clone, Copy, PartialEq, Eq)]
 pub enum AttributeKind {
     ChannelNumber,
     Lifetime,
@@ -199,21 +199,6 @@ impl AttributeKind {
                     AttributeKind::Unknown
                 }
             }
-        }
-    }
-
-    pub(crate) fn is_unknown(self) -> bool
-        ensures { result ≡ unknown_kind self }
-    {
-        match self {
-            AttributeKind::ChannelNumber => false,
-            AttributeKind::Lifetime => false,
-            AttributeKind::XorPeerAddress => false,
-            AttributeKind::Data => false,
-            AttributeKind::RequestedAddressFamily => false,
-            AttributeKind::RequestedTransport => false,
-            AttributeKind::Skipped => false,
-            AttributeKind::Unknown => true,
         }
     }
 }

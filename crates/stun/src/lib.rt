@@ -5,6 +5,7 @@
 pub mod channel_data;
 pub mod kinds;
 pub mod message;
+pub mod peers;
 pub mod values;
 
 // The magic cookie, and its upper half, with which a port is XORed.

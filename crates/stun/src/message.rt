@@ -1,10 +1,10 @@
 // The layout of a STUN message: the test of its header and of the fit of its attributes, and the attributes that are read, in order.
 ghost use Rattle.std.specs.Prelude.{◌≡◌};
 ghost use Rattle.stun.specs.Message.{step_at, attributes_fit, is_well_formed, is_integrity, is_unknown, attributes, first_of};
-ghost use Rattle.stun.specs.Inner.{Next, unknowns};
+ghost use Rattle.stun.specs.Inner.{attributes_left, unknowns};
 
 use crate::kinds::AttributeKind;
-use wire::{u16_at, u32_at};
+use wire::Number;
 
 #[derive(Clone, Copy)]
 pub struct Attribute {
@@ -23,6 +23,7 @@ pub enum Step {
     Short,
 }
 
+#[tactic(auto, unfolding(crate::specs::Message::step_at, crate::specs::Message::next_at))]
 pub(crate) fn step_at(s: &[u8], at: usize) -> Step
     ensures { result ≡ step_at s.now at }
 {
@@ -32,13 +33,13 @@ pub(crate) fn step_at(s: &[u8], at: usize) -> Step
     if s.len() - at < 4 {
         return Step::Short;
     }
-    let len = u16_at(s, at + 2) as usize;
+    let len = u16::at(s, at + 2) as usize;
     let size = 4 + (len + 3) / 4 * 4;
     if s.len() - at < size {
         return Step::Short;
     }
     let attribute = Attribute {
-        number: u16_at(s, at),
+        number: u16::at(s, at),
         start: at + 4,
         len,
     };
@@ -55,107 +56,97 @@ pub(crate) fn attributes_fit(s: &[u8]) -> bool
     let mut at = crate::HEADER;
     loop {
         match step_at(s, at) {
-            Step::One { attribute: _, next } => {
-                at = next;
-            }
-            Step::End => {
-                return true;
-            }
-            Step::Short => {
-                return false;
-            }
+            Step::One { next, .. } => at = next,
+            Step::End => return true,
+            Step::Short => return false,
         }
     }
 }
 
 // Whether a datagram is a STUN message.
+#[tactic(auto, unfolding(crate::specs::Message::is_well_formed))]
 pub fn well_formed(s: &[u8]) -> bool
     ensures { result ≡ is_well_formed s.now }
 {
     if s.len() < crate::HEADER {
         return false;
     }
-    let n = u16_at(s, 2) as usize;
+    let n = u16::at(s, 2) as usize;
     if n != s.len() - crate::HEADER {
         return false;
     }
     if n % 4 != 0 {
         return false;
     }
-    if u32_at(s, 4) != crate::COOKIE {
+    if u32::at(s, 4) != crate::COOKIE {
         return false;
     }
     attributes_fit(s)
 }
 
+#[tactic(auto, unfolding(crate::specs::Message::is_integrity))]
 fn is_integrity(number: u16) -> bool
     ensures { result ≡ is_integrity number }
 {
-    if number == AttributeKind::MESSAGE_INTEGRITY {
-        return true;
-    }
-    number == AttributeKind::MESSAGE_INTEGRITY_SHA256
+    number == AttributeKind::MESSAGE_INTEGRITY || number == AttributeKind::MESSAGE_INTEGRITY_SHA256
 }
 
+#[tactic(auto, unfolding(crate::specs::Message::is_unknown))]
 fn is_unknown(number: u16) -> bool
     ensures { result ≡ is_unknown number }
 {
-    AttributeKind::of(number).is_unknown()
+    AttributeKind::of(number) == AttributeKind::Unknown
 }
 
-// The next attribute that is read.
+// The attributes that are read, in order.
 #[derive(Clone, Copy)]
-pub enum Reading {
-    One { attribute: Attribute, next: usize },
-    Done,
+pub struct Attributes<'a> {
+    message: &'a [u8],
+    // Where the next one starts.
+    at: usize,
+}
+
+impl<'a> Attributes<'a> {
+    pub fn of(message: &'a [u8]) -> Self
+        ensures { attributes_left result ≡ attributes message.now }
+    {
+        Attributes {
+            message,
+            at: crate::HEADER,
+        }
+    }
 }
 
 // Nothing is read from the first MESSAGE-INTEGRITY on.
-pub(crate) fn next_attribute(s: &[u8], at: usize) -> Reading
-    ensures { Next s.now at result }
-{
-    match step_at(s, at) {
-        Step::One { attribute, next } => {
-            let number = attribute.number;
-            if is_integrity(number) {
-                return Reading::Done;
-            }
-            Reading::One { attribute, next }
-        }
-        Step::End => Reading::Done,
-        Step::Short => Reading::Done,
-    }
-}
+impl<'a> Iterator for Attributes<'a> {
+    ghost use Rattle.std.specs.Iterator.{YieldsFirst, item_count};
+    ghost use Rattle.stun.specs.Inner.{attributes_left};
 
-// Where the value of an attribute lies.
-#[derive(Clone, Copy)]
-pub enum ValuePlace {
-    Value { start: usize, len: usize },
-    Absent,
+    type Item = Attribute;
+
+    ghost next_gives = { YieldsFirst attributes_left };
+
+    ghost remaining = { item_count attributes_left };
+
+    fn next(&mut self) -> Option<Attribute> {
+        match step_at(self.message, self.at) {
+            Step::One { attribute, next } => {
+                if is_integrity(attribute.number) {
+                    return None;
+                }
+                self.at = next;
+                Some(attribute)
+            }
+            Step::End | Step::Short => None,
+        }
+    }
 }
 
 // The first attribute of a type.
-pub fn first_attribute(s: &[u8], number: u16) -> ValuePlace
+pub fn first_attribute(s: &[u8], number: u16) -> Option<Attribute>
     ensures { result ≡ first_of number (attributes s.now) }
 {
-    let mut at = crate::HEADER;
-    loop {
-        match next_attribute(s, at) {
-            Reading::One { attribute, next } => {
-                let n = attribute.number;
-                if n == number {
-                    return ValuePlace::Value {
-                        start: attribute.start,
-                        len: attribute.len,
-                    };
-                }
-                at = next;
-            }
-            Reading::Done => {
-                return ValuePlace::Absent;
-            }
-        }
-    }
+    Attributes::of(s).find(|attribute| attribute.number == number)
 }
 
 // The first 16 unknown types as met, repeats kept: the first `count` of `types`.
@@ -170,20 +161,13 @@ pub fn unknown_types(s: &[u8]) -> UnknownTypes
 {
     let mut types = [0u16; 16];
     let mut count: usize = 0;
-    let mut at = crate::HEADER;
-    while count < 16 {
-        match next_attribute(s, at) {
-            Reading::One { attribute, next } => {
-                let number = attribute.number;
-                if is_unknown(number) {
-                    types[count] = number;
-                    count += 1;
-                }
-                at = next;
-            }
-            Reading::Done => {
-                return UnknownTypes { types, count };
-            }
+    for attribute in Attributes::of(s) {
+        if count == 16 {
+            break;
+        }
+        if is_unknown(attribute.number) {
+            types[count] = attribute.number;
+            count += 1;
         }
     }
     UnknownTypes { types, count }

@@ -1,18 +1,17 @@
 -- The laws of searches and surveys: what one more slot at the end changes, and what a loop over the slots keeps.
 use Prim.Native.Nat.{ℕ, suc, ◌+◌, ◌≤◌, ◌<◌, ◌^◌}
-use mathlib.Core.Path.{◌≡◌, refl, sym, ◌∙◌, ap}
+use mathlib.Core.Path.{◌≡◌, refl, sym, ◌∙◌, ap, subst}
 use mathlib.Core.Bool.{Bool, true, false, not, false≢true}
 use mathlib.Core.List.{List, [], ◌∷◌, ◌++◌}
+use Rattle.std.specs.Prelude.{Option, Some, None}
 use native.Mathlib.Numerals.{add-one}
 use native.Mathlib.Omega.{arith}
 use borrow.Author.Tests.{eqb-true, eqb-false, eq-eqb, ne_eqb}
 use lib.Dec.{eqb}
 use lib.ListN.{length, get_or, set, take, length-take}
-use lib.Seq.{take-suc, take_all, length-take-le, get_or-set_same, get_or-set_other}
+use lib.Seq.{take-suc, length-take-le, get_or-set_same, get_or-set_other}
 use Rattle.choice.specs.Choice.{pick, both}
 use Rattle.slot.specs.declared.Allocation.{Allocation}
-use Rattle.slot.specs.declared.Found.{Found}
-use Rattle.slot.specs.declared.Found.TheVariants.{At, Nothing}
 use Rattle.slot.specs.declared.Slot.{Slot}
 use Rattle.slot.specs.Inner.{held_in}
 use Rattle.slot.specs.Search.{further, find, has, or_else, at_or}
@@ -25,40 +24,40 @@ use Rattle.table.specs.Table.{slot_at, in_slot, count, lapsed}
 use Rattle.table.specs.Inner.{keyed, searched, Surveyed, Looked, place_of, Within, SurveyedWith}
 
 -- ---- one more entry at the end of a list
-further_else : (found : Found) (passes : Bool) (i : ℕ) → further (or_else found (pick passes (At i) Nothing)) ≡ or_else (further found) (pick passes (At (suc i)) Nothing)
-further_else (At j) passes i = refl
-further_else Nothing true i = refl
-further_else Nothing false i = refl
+further_else : (found : Option ℕ) (passes : Bool) (i : ℕ) → further (or_else found (pick passes (Some i) None)) ≡ or_else (further found) (pick passes (Some (suc i)) None)
+further_else (Some j) passes i = refl
+further_else None true i = refl
+further_else None false i = refl
 
-has_else : (found : Found) (passes : Bool) (i : ℕ) → has (or_else found (pick passes (At i) Nothing)) ≡ pick (has found) true passes
-has_else (At j) passes i = refl
-has_else Nothing true i = refl
-has_else Nothing false i = refl
+has_else : (found : Option ℕ) (passes : Bool) (i : ℕ) → has (or_else found (pick passes (Some i) None)) ≡ pick (has found) true passes
+has_else (Some j) passes i = refl
+has_else None true i = refl
+has_else None false i = refl
 
 module _ {A : Type 0} (p : A → Bool) where
-  find_more : (l : List A) (x : A) → find p (l ++ x ∷ []) ≡ or_else (find p l) (pick (p x) (At (length l)) Nothing)
+  find_more : (l : List A) (x : A) → find p (l ++ x ∷ []) ≡ or_else (find p l) (pick (p x) (Some (length l)) None)
   unfolding find
   find_more [] x = refl
   find_more (y ∷ l) x = rw (find_more l x) (here (p y))
     where
-      here : (b : Bool) → pick b (At 0) (further (or_else (find p l) (pick (p x) (At (length l)) Nothing))) ≡ or_else (pick b (At 0) (further (find p l))) (pick (p x) (At (suc (length l))) Nothing)
+      here : (b : Bool) → pick b (Some 0) (further (or_else (find p l) (pick (p x) (Some (length l)) None))) ≡ or_else (pick b (Some 0) (further (find p l))) (pick (p x) (Some (suc (length l))) None)
       here true = refl
       here false = further_else (find p l) (p x) (length l)
 
   -- what is found is one of the list's
-  pub find_within : (l : List A) {i : ℕ} → find p l ≡ At i → i < length l
+  pub find_within : (l : List A) {i : ℕ} → find p l ≡ Some i → i < length l
   unfolding find
   find_within [] e = let z : ◌≡◌ {A = ℕ} 0 1 = cc in omega arith
   find_within (y ∷ l) {i} e = here (p y) (find p l) (λ j. find_within l) e
     where
-      here : (b : Bool) (found : Found) → ((j : ℕ) → found ≡ At j → j < length l) → pick b (At 0) (further found) ≡ At i → i < suc (length l)
+      here : (b : Bool) (found : Option ℕ) → ((j : ℕ) → found ≡ Some j → j < length l) → pick b (Some 0) (further found) ≡ Some i → i < suc (length l)
       here true found within e' = let z : ◌≡◌ {A = ℕ} 0 i = cc in omega arith
-      here false (At j) within e' = let z : suc j ≡ i = cc in omega (arith, within j refl)
-      here false Nothing within e' = let z : ◌≡◌ {A = ℕ} 0 1 = cc in omega arith
+      here false (Some j) within e' = let z : suc j ≡ i = cc in omega (arith, within j refl)
+      here false None within e' = let z : ◌≡◌ {A = ℕ} 0 1 = cc in omega arith
 
-  pub found_within : (l : List A) (found : Found) → found ≡ find p l → Within found (length l)
-  found_within l (At i) e = find_within l (sym e)
-  found_within l Nothing e = tt
+  pub found_within : (l : List A) (found : Option ℕ) → found ≡ find p l → Within found (length l)
+  found_within l (Some i) e = find_within l (sym e)
+  found_within l None e = tt
 
   has_more : (l : List A) (x : A) → has (find p (l ++ x ∷ [])) ≡ pick (has (find p l)) true (p x)
   has_more l x = ap has (find_more l x) ∙ has_else (find p l) (p x) (length l)
@@ -103,23 +102,23 @@ module _ (ports : List Bool) {marked : List Bool} {p k : ℕ} where
           (unmarked (get_or ports j false) (ne_eqb p (49152 + j) (λ same. eqb-false j k f (omega arith))))
 
 -- ---- one more slot
-pub surveyed_with : {survey more : Survey} {i : ℕ} {wanted : Wanted} {allocation : Allocation}
-    → more.own ≡ or_else survey.own (pick (keyed wanted.time wanted.key allocation) (At i) Nothing)
-    → more.held ≡ pick (holds_user wanted.time wanted.user allocation) (survey.held + 1) survey.held
-    → more.free ≡ or_else survey.free (pick (lapsed wanted.time allocation) (At i) Nothing)
+pub surveyed_with : {survey more : Survey} {i : ℕ} {wanted : Wanted} {user : ℕ} {allocation : Allocation}
+    → more.own ≡ or_else survey.own (pick (keyed wanted.time wanted.key allocation) (Some i) None)
+    → more.held ≡ pick (holds_user wanted.time user allocation) (survey.held + 1) survey.held
+    → more.free ≡ or_else survey.free (pick (lapsed wanted.time allocation) (Some i) None)
     → ((k : ℕ) → k < 128 → get_or (held_in more.ports) k false ≡ pick (get_or (held_in survey.ports) k false) true (holds_port wanted.time (49152 + k) allocation))
-    → SurveyedWith survey i wanted allocation more
-surveyed_with {survey} {more} {i} {wanted} {allocation} own held free ports l slot here same before = record {
+    → SurveyedWith survey i wanted user allocation more
+surveyed_with {survey} {more} {i} {wanted} {user} {allocation} own held free ports l slot here same before = record {
   own = rw (find_more (in_slot (keyed wanted.time wanted.key)) l slot, ← before.own, same, here) own;
-  held = rw (count_more (in_slot (holds_user wanted.time wanted.user)) l slot, ← before.held, same) held;
+  held = rw (count_more (in_slot (holds_user wanted.time user)) l slot, ← before.held, same) held;
   free = rw (find_more (in_slot (lapsed wanted.time)) l slot, ← before.free, same, here) free;
   ports = λ k h. rw (has_more (in_slot (holds_port wanted.time (49152 + k))) l slot, ← before.ports k h, same) (ports k h);
 }
 
 -- ---- one more slot, by the tests that are made: it isn't live; or it is, and then it has the key or has not
-pub else_none : (found : Found) → found ≡ or_else found Nothing
-else_none (At i) = refl
-else_none Nothing = refl
+pub else_none : (found : Option ℕ) → found ≡ or_else found None
+else_none (Some i) = refl
+else_none None = refl
 
 module _ (time : ℕ) (allocation : Allocation) where
   lapsed_key : live_allocation time allocation ≡ false → (key : Key) → keyed time key allocation ≡ false
@@ -135,74 +134,75 @@ module _ (time : ℕ) (allocation : Allocation) where
   unfolding holds_port
   live_port e port = rw e
 
-module _ {survey more : Survey} {i : ℕ} {wanted : Wanted} {allocation : Allocation} where
+module _ {survey more : Survey} {i : ℕ} {wanted : Wanted} {user : ℕ} {allocation : Allocation} where
   pub surveyed_lapsed : live_allocation wanted.time allocation ≡ false → more.own ≡ survey.own → more.held ≡ survey.held
-      → more.free ≡ or_else survey.free (At i) → more.ports ≡ survey.ports → SurveyedWith survey i wanted allocation more
+      → more.free ≡ or_else survey.free (Some i) → more.ports ≡ survey.ports → SurveyedWith survey i wanted user allocation more
   unfolding both
   surveyed_lapsed dead own held free ports =
       surveyed_with
       (rw (lapsed_key wanted.time allocation dead wanted.key) (own ∙ else_none survey.own))
-      (rw (lapsed_user wanted.time allocation dead wanted.user) held)
+      (rw (lapsed_user wanted.time allocation dead user) held)
       (rw dead free)
       (λ k h. rw (live_port wanted.time allocation dead (49152 + k), ports) (unmarked _ refl))
 
   pub surveyed_live : live_allocation wanted.time allocation ≡ true
-      → more.own ≡ or_else survey.own (pick (keyed wanted.time wanted.key allocation) (At i) Nothing)
-      → more.held ≡ pick (holds_user wanted.time wanted.user allocation) (survey.held + 1) survey.held → more.free ≡ survey.free
+      → more.own ≡ or_else survey.own (pick (keyed wanted.time wanted.key allocation) (Some i) None)
+      → more.held ≡ pick (holds_user wanted.time user allocation) (survey.held + 1) survey.held → more.free ≡ survey.free
       → ((k : ℕ) → k < 128 → get_or (held_in more.ports) k false ≡ pick (get_or (held_in survey.ports) k false) true (eqb allocation.port (49152 + k)))
-      → SurveyedWith survey i wanted allocation more
+      → SurveyedWith survey i wanted user allocation more
   unfolding both
   surveyed_live lives own held free ports =
       surveyed_with own held (rw lives (free ∙ else_none survey.free)) (λ k h. rw (live_port wanted.time allocation lives (49152 + k)) (ports k h))
 
 -- ---- a loop over the slots: it has surveyed the first i
-module _ (l : List Slot) (i : ℕ) {wanted : Wanted} {survey : Survey} where
-  pub held_fits : length l < 2 ^ 63 → Surveyed (take i l) wanted survey → survey.held < 2 ^ 63
-  held_fits short before = omega (arith, before.held, count_most (in_slot (holds_user wanted.time wanted.user)) (take i l), length-take i l)
+module _ (l : List Slot) (i : ℕ) {wanted : Wanted} {user : ℕ} {survey : Survey} where
+  pub held_fits : length l < 2 ^ 63 → Surveyed (take i l) wanted user survey → survey.held < 2 ^ 63
+  held_fits short before = omega (arith, before.held, count_most (in_slot (holds_user wanted.time user)) (take i l), length-take i l)
 
-  pub survey_next : {allocation : Allocation} {more : Survey} → i < length l → Surveyed (take i l) wanted survey → allocation ≡ (slot_at l i).allocation
-      → SurveyedWith survey i wanted allocation more → Surveyed (take (i + 1) l) wanted more
-  survey_next within before same next = rw (add-one, take-suc l i fresh_slot) (next (take i l) (slot_at l i) (length-take-le i l (omega arith)) (sym same) before)
-
-  pub survey_all : length l ≤ i → Surveyed (take i l) wanted survey → Surveyed l wanted survey
-  survey_all past before = rw (take_all i l past) at before
+  pub survey_next : {more : Survey} (d : Slot) → i < length l → Surveyed (take i l) wanted user survey
+      → SurveyedWith survey i wanted user (get_or l i d).allocation more → Surveyed (take (i + 1) l) wanted user more
+  survey_next d within before next = rw (add-one, take-suc l i d) (next (take i l) (get_or l i d) (length-take-le i l (omega arith)) refl before)
 
 -- ---- a look over the slots
-pub look_over : {l : List Slot} {wanted : Wanted} {survey : Survey} → Surveyed l wanted survey → Looked l wanted survey
-look_over w = record { own = w.own; room = λ _. w }
+some_same : {a b : ℕ} → ◌≡◌ {A = Option ℕ} (Some a) (Some b) → a ≡ b
+some_same e = cc
 
-pub look_found : {l : List Slot} {wanted : Wanted} {survey : Survey} {time : ℕ} {key : Key} {found : Found} {room : Bool} → room ≡ wanted.room → room ≡ false
-    → time ≡ wanted.time → key ≡ wanted.key → found ≡ searched time key l → survey.own ≡ found → Looked l wanted survey
-look_found {l} {wanted} {survey} {time} {key} r n t k f o = record {
-  own = o ∙ f ∙ ap (λ (u : ℕ). searched u key l) t ∙ ap (λ (y : Key). searched wanted.time y l) k;
-  room = λ y. absurd (false≢true (sym n ∙ r ∙ y));
-}
+none_some : {a : ℕ} → ◌≡◌ {A = Option ℕ} None (Some a) → ⊥
+none_some e = let z : ◌≡◌ {A = ℕ} 0 1 = cc in omega arith
+
+pub look_over : {l : List Slot} {wanted : Wanted} {user : ℕ} {survey : Survey} → wanted.room_for ≡ Some user → Surveyed l wanted user survey → Looked l wanted survey
+look_over {l} {wanted} {user} {survey} asked w =
+    record { own = w.own; room = λ told. subst (λ (u : ℕ). Surveyed l wanted u survey) (some_same (sym asked ∙ told)) w }
+
+pub look_found : {l : List Slot} {wanted : Wanted} {survey : Survey} {found : Option ℕ} → wanted.room_for ≡ None
+    → found ≡ searched wanted.time wanted.key l → survey.own ≡ found → Looked l wanted survey
+look_found n f o = record { own = o ∙ f; room = λ told. absurd (none_some (sym n ∙ told)) }
 
 -- what was found lies in the table
 pub own_within : (l : List Slot) {wanted : Wanted} {survey : Survey} → Looked l wanted survey → Within survey.own (length l)
 own_within l {wanted} {survey} w = found_within (in_slot (keyed wanted.time wanted.key)) l survey.own w.own
 
 -- the slot at the place found
-module _ (l : List Slot) {there : Bool} (found : Found) (h : there ≡ has found) where
+module _ (l : List Slot) {there : Bool} (found : Option ℕ) (h : there ≡ has found) where
   pub slot_there : {k : ℕ} {slot : Slot} → there ≡ true → k ≡ place_of found → slot ≡ slot_at l k → slot ≡ at_or fresh_slot found l
   unfolding at_or
   slot_there {k} {slot} y p e = go found (sym h ∙ y) p
     where
-      go : (f : Found) → has f ≡ true → k ≡ place_of f → slot ≡ at_or fresh_slot f l
-      go (At i) t q = e ∙ ap (slot_at l) q
-      go Nothing t q = absurd (false≢true t)
+      go : (f : Option ℕ) → has f ≡ true → k ≡ place_of f → slot ≡ at_or fresh_slot f l
+      go (Some i) t q = e ∙ ap (slot_at l) q
+      go None t q = absurd (false≢true t)
 
   pub place_there : {k : ℕ} → there ≡ true → k ≡ place_of found → Within found (length l) → k < length l
   place_there {k} y p w = go found (sym h ∙ y) p w
     where
-      go : (f : Found) → has f ≡ true → k ≡ place_of f → Within f (length l) → k < length l
-      go (At i) t q v = rw q v
-      go Nothing t q v = absurd (false≢true t)
+      go : (f : Option ℕ) → has f ≡ true → k ≡ place_of f → Within f (length l) → k < length l
+      go (Some i) t q v = rw q v
+      go None t q v = absurd (false≢true t)
 
   pub slot_missing : {slot : Slot} → not there ≡ true → slot ≡ fresh_slot → slot ≡ at_or fresh_slot found l
   unfolding at_or
   slot_missing {slot} n e = go found (sym (ap not h) ∙ n)
     where
-      go : (f : Found) → not (has f) ≡ true → slot ≡ at_or fresh_slot f l
-      go (At i) t = absurd (false≢true t)
-      go Nothing t = e
+      go : (f : Option ℕ) → not (has f) ≡ true → slot ≡ at_or fresh_slot f l
+      go (Some i) t = absurd (false≢true t)
+      go None t = e

@@ -28,24 +28,5 @@ pub(crate) fn matches(time: u64, key: Key, allocation: Allocation) -> bool
 pub struct Wanted {
     pub time: u64,
     pub key: Key,
-    pub room: bool,
-    pub user: u8,
-}
-
-pub(crate) fn wants_room(wanted: Wanted) -> bool
-    ensures { result ≡ wanted.room }
-{
-    wanted.room
-}
-
-pub(crate) fn wanted_time(wanted: Wanted) -> u64
-    ensures { result ≡ wanted.time }
-{
-    wanted.time
-}
-
-pub(crate) fn wanted_key(wanted: Wanted) -> Key
-    ensures { result ≡ wanted.key }
-{
-    wanted.key
+    pub room_for: Option<u8>,
 }

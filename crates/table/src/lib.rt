@@ -6,32 +6,18 @@ ghost use Rattle.std.specs.Prelude.{◌≡◌, ◌<◌, length, set};
 ghost use Rattle.table.specs.Table.{slot_at};
 ghost use Rattle.table.specs.Inner.{searched, Surveyed, Looked};
 
-use keys::{Key, Wanted, matches, wanted_key, wanted_time, wants_room};
-use slot::{Allocation, Found, Slot};
+use keys::{Key, Wanted, matches};
+use slot::Slot;
 use surveys::{Survey, first_survey, only_own, surveyed_with};
 
 pub mod keys;
 pub mod surveys;
-
-pub fn slot_count(slots: &[Slot]) -> usize
-    ensures { result ≡ length slots.now }
-{
-    slots.len()
-}
 
 pub fn slot_at(slots: &[Slot], k: usize) -> Slot
     requires { k < length slots.now }
     ensures { result ≡ slot_at slots.now k }
 {
     slots[k]
-}
-
-// The allocation alone: what is beside it in the slot is not copied.
-pub(crate) fn allocation_at(slots: &[Slot], k: usize) -> Allocation
-    requires { k < length slots.now }
-    ensures { result ≡ (slot_at slots.now k).allocation }
-{
-    slots[k].allocation
 }
 
 pub fn put_slot(slots: &mut [Slot], k: usize, slot: Slot)
@@ -41,31 +27,22 @@ pub fn put_slot(slots: &mut [Slot], k: usize, slot: Slot)
     slots[k] = slot;
 }
 
-// The lowest slot that is live and has the key.
-pub(crate) fn search(slots: &[Slot], time: u64, key: Key) -> Found
+// The lowest slot that is live and has the key. Of each slot the allocation alone is read.
+pub(crate) fn search(slots: &[Slot], time: u64, key: Key) -> Option<usize>
     ensures { result ≡ searched time key slots.now }
 {
-    let mut i: usize = 0;
-    while i < slots.len() {
-        let allocation = allocation_at(slots, i);
-        if matches(time, key, allocation) {
-            return Found::At(i);
-        }
-        i += 1;
-    }
-    Found::Nothing
+    slots
+        .iter()
+        .position(|slot| matches(time, key, slot.allocation))
 }
 
-// What Allocate asks of the slots, in one pass over them.
-fn survey(slots: &[Slot], wanted: Wanted) -> Survey
-    ensures { Surveyed slots.now wanted result }
+// What an Allocate of that user asks of the slots, in one pass over them. Of each slot the allocation alone is read.
+fn survey(slots: &[Slot], wanted: Wanted, user: u8) -> Survey
+    ensures { Surveyed slots.now wanted user result }
 {
     let mut survey = first_survey();
-    let mut i: usize = 0;
-    while i < slots.len() {
-        let allocation = allocation_at(slots, i);
-        survey = surveyed_with(survey, i, wanted, allocation);
-        i += 1;
+    for (i, slot) in slots.iter().enumerate() {
+        survey = surveyed_with(survey, i, wanted, user, slot.allocation);
     }
     survey
 }
@@ -74,8 +51,8 @@ fn survey(slots: &[Slot], wanted: Wanted) -> Survey
 pub fn look(slots: &[Slot], wanted: Wanted) -> Survey
     ensures { Looked slots.now wanted result }
 {
-    if wants_room(wanted) {
-        return survey(slots, wanted);
+    match wanted.room_for {
+        Some(user) => survey(slots, wanted, user),
+        None => only_own(search(slots, wanted.time, wanted.key)),
     }
-    only_own(search(slots, wanted_time(wanted), wanted_key(wanted)))
 }

@@ -5,18 +5,18 @@ ghost use Rattle.slot.specs.Inner.{held_in};
 ghost use Rattle.table.specs.Inner.{place_of, SurveyedNone, SurveyedWith};
 
 use crate::keys::{Wanted, matches};
+use slot::Allocation;
 use slot::allocations::{allocation_is_live, holds_user};
 use slot::ports::{Ports, no_ports, with_port};
-use slot::{Allocation, Found, or_else};
 
 #[derive(Clone, Copy)]
 pub struct Survey {
     // The lowest live slot of the key.
-    pub own: Found,
+    pub own: Option<usize>,
     // How many live slots the user holds.
     pub held: usize,
     // The lowest slot that isn't live.
-    pub free: Found,
+    pub free: Option<usize>,
     // The ports that live slots hold.
     pub ports: Ports,
 }
@@ -25,33 +25,28 @@ pub(crate) fn first_survey() -> Survey
     ensures { SurveyedNone result }
 {
     Survey {
-        own: Found::Nothing,
+        own: None,
         held: 0,
-        free: Found::Nothing,
+        free: None,
         ports: no_ports(),
     }
 }
 
 // The survey that knows of the key's slot alone.
-pub(crate) fn only_own(own: Found) -> Survey
+pub(crate) fn only_own(own: Option<usize>) -> Survey
     ensures { result.own ≡ own }
 {
     Survey {
         own,
-        held: 0,
-        free: Found::Nothing,
-        ports: no_ports(),
+        ..first_survey()
     }
 }
 
 // The place that was found; it is asked for only where there is one.
-pub fn place_of(found: Found) -> usize
+pub fn place_of(found: Option<usize>) -> usize
     ensures { result ≡ place_of found }
 {
-    match found {
-        Found::At(k) => k,
-        Found::Nothing => 0,
-    }
+    found.unwrap_or(0)
 }
 
 fn counted(count: usize, counts: bool) -> usize
@@ -76,38 +71,32 @@ pub(crate) fn surveyed_with(
     survey: Survey,
     i: usize,
     wanted: Wanted,
+    user: u8,
     allocation: Allocation,
 ) -> Survey
     requires { survey.held < 2 ^ 63 }
-    ensures { SurveyedWith survey i wanted allocation result }
+    ensures { SurveyedWith survey i wanted user allocation result }
 {
     let time = wanted.time;
-    let own = survey.own;
-    let free = survey.free;
-    let marked = survey.ports;
     if !allocation_is_live(time, allocation) {
         return Survey {
-            own,
-            held: survey.held,
-            free: or_else(free, Found::At(i)),
-            ports: marked,
+            free: survey.free.or(Some(i)),
+            ..survey
         };
     }
-    let held = counted(survey.held, holds_user(time, wanted.user, allocation));
-    let ports = mark(allocation.port, marked);
-    let key = wanted.key;
-    if !matches(time, key, allocation) {
+    let held = counted(survey.held, holds_user(time, user, allocation));
+    let ports = mark(allocation.port, survey.ports);
+    if !matches(time, wanted.key, allocation) {
         return Survey {
-            own,
             held,
-            free,
             ports,
+            ..survey
         };
     }
     Survey {
-        own: or_else(own, Found::At(i)),
+        own: survey.own.or(Some(i)),
         held,
-        free,
         ports,
+        ..survey
     }
 }

@@ -1,26 +1,28 @@
 -- The laws of numbers and bytes as text: each comes back from its text, and no other text is read.
 use Prim.Native.Nat.{ℕ, zero, suc, ◌+◌, ◌-◌, ◌*◌, ◌/◌, ◌%◌, ◌^◌, ◌≤◌, ◌<◌, suc-le-suc}
 use mathlib.Core.Path.{◌≡◌, refl, sym, ap, ap₂, ◌∙◌, subst}
-use mathlib.Core.Bool.{Bool, true, false, not, false≢true}
+use mathlib.Core.Bool.{Bool, true, false, not, cond, false≢true}
 use mathlib.Core.List.{List, [], ◌∷◌, ◌++◌, append_assoc, append-nil}
 use native.Mathlib.Omega.{arith}
 use native.Mathlib.Numerals.{add-one}
-use native.Mathlib.Nat.{pow-zero, add_assoc, mul-le-mul_left, le_refl, lt_of_lt_of_le, one-le-pow, pow-suc, pow-succ', mul_assoc, zero-mul, zero-add, mod-lt, mod-one, mod-eq_of_lt, div-one, div-div-eq-div-mul, div-lt_iff_lt-mul, le-div_iff_mul-le, add-mul}
+use native.Mathlib.Nat.{pow-zero, add_assoc, mul-le-mul_left, le_refl, lt_of_lt_of_le, one-le-pow, pow-le-pow_right, pow-suc, pow-succ', mul_assoc, zero-mul, zero-add, mod-lt, mod-one, mod-eq_of_lt, div-one, div-div-eq-div-mul, div-lt_iff_lt-mul, add-mul}
 use lib.Arith.{mod-mul, digits_div, digits_mod}
 use lib.Dec.{eqb, ltb, leb, lit<, lit≤}
-use lib.ListN.{length, get_or, take, drop, set, length-append, length-set}
-use lib.Seq.{take_all, length-take-le, set_at, drop-cons, drop-set-lt, get_or-set_same, take-suc, slice, slice_empty, slice-cons, length-slice}
+use Rattle.std.specs.List.{position_or_len}
+use Rattle.std.specs.Option.{unwrap_or}
+use Rattle.std.proofs.lemmas.List.{take-append-drop}
+use lib.ListN.{length, get_or, take, drop, set, length-append, length-set, length-drop, drop_of_length-le}
+use lib.Seq.{take_all, length-take-le, set_at, drop-cons, drop-drop, drop-set-lt, get_or-set_same, take-suc}
 use borrow.Author.Tests.{lt-ltb, le-ltb, le-leb, lt-leb, eq-eqb, ne_eqb, ltb-true, ltb-false, eqb-true, eqb-false, not-true}
 use borrow.Rule.Slice.PartMut.{mid_of, put_mid}
 use Rattle.choice.specs.Choice.{pick, both}
-use Rattle.choice.proofs.Laws.{both_parts, both_no, both_yes}
+use Rattle.choice.proofs.Laws.{chosen, both_parts, both_no, both_yes}
 use Rattle.text.specs.Scan.{index_of}
 use Rattle.wire.specs.Inner.{Wrote}
 use Rattle.wire.proofs.Laws.{wrote_then}
 use Rattle.address.specs.declared.Address.{Address}
 use Rattle.address.specs.declared.Address.TheVariants.{V4, V6}
-use Rattle.text.specs.declared.Parsed.{Parsed}
-use Rattle.text.specs.declared.Parsed.TheVariants.{Number, Nothing}
+use Rattle.std.specs.Prelude.{Option, None, Some}
 use Rattle.text.specs.Text.{digit, digits_of, size_within, decimal_size, decimal, hex_word, address_text, hex_bytes, digit_value, number_from, of_size, decimal_of, hex_word_of, is_hex, hex_bytes_of}
 use Rattle.text.specs.Inner.{hex_into, ReadHex, Past}
 
@@ -77,6 +79,24 @@ value_digit d h = either d 10
     (λ l. rw (lt-ltb d 10 l, le-ltb (48 + d) 48 (omega arith), le-leb (48 + d) 57 (omega arith)) (omega arith))
     (λ l. rw (le-ltb d 10 l, le-ltb (87 + d) 48 (omega arith), lt-leb (87 + d) 57 (omega arith), le-ltb (87 + d) 97 (omega arith), le-leb (87 + d) 102 (omega arith)) (omega arith))
 
+-- a character that is a digit, and one that is none
+pub digit_decimal : (c : ℕ) → 48 ≤ c → c ≤ 57 → digit_value c ≡ c - 48
+unfolding digit_value
+digit_decimal c a b = rw (le-ltb c 48 a, le-leb c 57 b)
+
+pub digit_letter : (c : ℕ) → 97 ≤ c → c ≤ 102 → digit_value c ≡ c - 87
+unfolding digit_value
+digit_letter c a b = rw (le-ltb c 48 (omega arith), lt-leb c 57 (omega arith), le-ltb c 97 a, le-leb c 102 b)
+
+pub digit_none : (c : ℕ) → (48 ≤ c → c ≤ 57 → ⊥) → (97 ≤ c → c ≤ 102 → ⊥) → 16 ≡ digit_value c
+unfolding digit_value
+digit_none c low high =
+    either c 48 (λ a. rw (lt-ltb c 48 a))
+    (λ a. either 57 c
+    (λ b. either c 97 (λ d. rw (le-ltb c 48 a, lt-leb c 57 b, lt-ltb c 97 d))
+    (λ d. either 102 c (λ e. rw (le-ltb c 48 a, lt-leb c 57 b, le-ltb c 97 d, lt-leb c 102 e)) (λ e. absurd (high d e))))
+    (λ b. absurd (low a b)))
+
 digit_value_lem : (c : ℕ) → digit_value c < 16 → digit (digit_value c) ≡ c
 unfolding digit digit_value
 digit_value_lem c h = either c 48
@@ -94,7 +114,7 @@ digit_value_lem c h = either c 48
 
 -- ---- numbers, written and read
 
-picked : (b : Bool) (o : Parsed) (n : ℕ) → pick b o Nothing ≡ Number n → (b ≡ true) × (o ≡ Number n)
+picked : (b : Bool) (o : Option ℕ) (n : ℕ) → pick b o None ≡ Some n → (b ≡ true) × (o ≡ Some n)
 picked true o n e = (refl, e)
 picked false o n e = let z : ◌≡◌ {A = ℕ} 0 1 = cc in let y : ⊥ = omega arith in absurd y
 
@@ -120,7 +140,7 @@ module _ (base : ℕ) (p : 0 < base) (h : base ≤ 16) where
       rw append_assoc (read_digits w acc (n / base) (digit (n % base) ∷ t) (omega arith) ∙ read_digit q (n % base) t (mod-lt n p) f ∙ ap (λ (m : ℕ). number_from base m t) e)
 
   -- what is read is a number below 2^64, and the text is its digits
-  read_only : (acc n : ℕ) (l : List ℕ) → acc < 2 ^ 64 → number_from base acc l ≡ Number n
+  read_only : (acc n : ℕ) (l : List ℕ) → acc < 2 ^ 64 → number_from base acc l ≡ Some n
       → (n < 2 ^ 64) × ((n ≡ acc * base ^ length l + n % base ^ length l) × (l ≡ digits_of base (length l) n))
   unfolding number_from digits_of
   read_only acc n [] b e =
@@ -149,12 +169,12 @@ size_within_lem (suc j) (suc k) n a b = either n 10
     (λ l. rw (lt-ltb n 10 l))
     (λ l. rw (le-ltb n 10 l) (ap suc (size_within_lem j k (n / 10) (omega arith) (omega arith))))
 
-pub size_small : (n : ℕ) → n < 10 → decimal_size n ≡ 1
+size_small : (n : ℕ) → n < 10 → decimal_size n ≡ 1
 unfolding decimal_size size_within
 size_small zero h = refl
 size_small (suc n) h = rw (lt-ltb (suc n) 10 h)
 
-pub size_more : (n : ℕ) → 10 ≤ n → decimal_size n ≡ suc (decimal_size (n / 10))
+size_more : (n : ℕ) → 10 ≤ n → decimal_size n ≡ suc (decimal_size (n / 10))
 unfolding decimal_size size_within
 size_more zero h = omega arith
 size_more (suc n) h = rw (le-ltb (suc n) 10 h) (ap suc (size_within_lem n (suc n / 10) (suc n / 10) (omega arith) (omega arith)))
@@ -178,6 +198,19 @@ pub length-decimal : (n : ℕ) → length (decimal n) ≡ decimal_size n
 unfolding decimal
 length-decimal n = length_digits 10 (decimal_size n) n
 
+pub size_of_zero : {n : ℕ} → n ≡ 0 → 1 ≡ length (decimal n)
+size_of_zero {n} e = sym (length-decimal n ∙ size_small n (omega arith))
+
+-- 10 ^ k is the highest power of ten that is not above n
+pub size_is : (n k : ℕ) → 10 ^ k ≤ n → n < 10 * 10 ^ k → k + 1 ≡ length (decimal n)
+size_is n k h l =
+    let most = size_le k n (rw pow-suc (omega arith)) in
+    let least : k < decimal_size n = either k (decimal_size n) (λ a. a) (λ a.
+    let more = pow-le-pow_right {n = 10} (lit< tt) a in
+    let holds = size_holds n n (le_refl n) in
+    let y : ⊥ = omega arith in absurd y) in
+    omega (arith, length-decimal n)
+
 pub length_hex_word : (n : ℕ) → length (hex_word n) ≡ 8
 unfolding hex_word
 length_hex_word n = length_digits 16 8 n
@@ -200,17 +233,17 @@ pub decimal-length : (n : ℕ) → n < 2 ^ 64 → length (decimal n) ≤ 20
 decimal-length n h = rw length-decimal (size_twenty n h)
 
 -- all of a text of w digits
-read_whole : (base w n : ℕ) → 0 < base → base ≤ 16 → n < base ^ w → n < 2 ^ 64 → number_from base 0 (digits_of base w n) ≡ Number n
+read_whole : (base w n : ℕ) → 0 < base → base ≤ 16 → n < base ^ w → n < 2 ^ 64 → number_from base 0 (digits_of base w n) ≡ Some n
 unfolding number_from
 read_whole base w n p h k b =
     let e : 0 * base ^ w + n % base ^ w ≡ n = rw (zero-mul, mod-eq_of_lt k) (zero-add n) in
-    ap (number_from base 0) (sym (append-nil (digits_of base w n))) ∙ read_digits base p h w 0 n [] (rw e b) ∙ ap Number e
+    ap (number_from base 0) (sym (append-nil (digits_of base w n))) ∙ read_digits base p h w 0 n [] (rw e b) ∙ ap Some e
 
-pub decimal_read : (n : ℕ) → n < 2 ^ 64 → decimal_of (decimal n) ≡ Number n
+pub decimal_read : (n : ℕ) → n < 2 ^ 64 → decimal_of (decimal n) ≡ Some n
 unfolding decimal_of decimal of_size
 decimal_read n h = rw (read_whole 10 (decimal_size n) n (lit< tt) (lit≤ tt) (size_holds n n (le_refl n)) h, eq-eqb _ _ (sym (length_digits 10 (decimal_size n) n)))
 
-pub hex_word_read : (n : ℕ) → n < 2 ^ 32 → hex_word_of (hex_word n) ≡ Number n
+pub hex_word_read : (n : ℕ) → n < 2 ^ 32 → hex_word_of (hex_word n) ≡ Some n
 unfolding hex_word_of hex_word
 hex_word_read n h = rw (eq-eqb _ _ (length_digits 16 8 n)) (read_whole 16 8 n (lit< tt) (lit≤ tt) h (omega arith))
 
@@ -227,22 +260,22 @@ hex_bytes_read (b ∷ l) h =
 
 -- ---- and no other text is read
 
-sized : (size : ℕ) (o : Parsed) (n : ℕ) → of_size size o ≡ Number n → (o ≡ Number n) × (decimal_size n ≡ size)
+sized : (size : ℕ) (o : Option ℕ) (n : ℕ) → of_size size o ≡ Some n → (o ≡ Some n) × (decimal_size n ≡ size)
 unfolding of_size
-sized size (Number m) n e =
-    let t = picked (eqb (decimal_size m) size) (Number m) n e in
+sized size (Some m) n e =
+    let t = picked (eqb (decimal_size m) size) (Some m) n e in
     let f : n ≡ m = cc in
     (t.1, ap decimal_size f ∙ eqb-true (decimal_size m) size t.0)
-sized size Nothing n e = let z : ◌≡◌ {A = ℕ} 0 1 = cc in let y : ⊥ = omega arith in absurd y
+sized size None n e = let z : ◌≡◌ {A = ℕ} 0 1 = cc in let y : ⊥ = omega arith in absurd y
 
-pub decimal_only : (n : ℕ) (l : List ℕ) → decimal_of l ≡ Number n → (n < 2 ^ 64) × (l ≡ decimal n)
+pub decimal_only : (n : ℕ) (l : List ℕ) → decimal_of l ≡ Some n → (n < 2 ^ 64) × (l ≡ decimal n)
 unfolding decimal_of decimal
 decimal_only n l e =
     let t = sized (length l) (number_from 10 0 l) n e in
     let r = read_only 10 (lit< tt) (lit≤ tt) 0 n l (lit< tt) t.0 in
     (r.0, r.1.1 ∙ ap (λ (w : ℕ). digits_of 10 w n) (sym t.1))
 
-pub hex_word_only : (n : ℕ) (l : List ℕ) → hex_word_of l ≡ Number n → (n < 2 ^ 32) × (l ≡ hex_word n)
+pub hex_word_only : (n : ℕ) (l : List ℕ) → hex_word_of l ≡ Some n → (n < 2 ^ 32) × (l ≡ hex_word n)
 unfolding hex_word_of hex_word
 hex_word_only n l e =
     let t = picked (eqb (length l) 8) (number_from 16 0 l) n e in
@@ -268,48 +301,30 @@ hex_bytes_only (c ∷ e ∷ l) t =
 
 -- ---- what the loops cite
 
--- a number's next digit fits below 2^64
-pub number_fits : (base n d : ℕ) → 0 < base → d ≤ 16 → n ≤ (18446744073709551615 - d) / base → n * base + d < 2 ^ 64
-number_fits base n d p b k = let m : n * base ≤ 18446744073709551615 - d = (le-div_iff_mul-le p).0 k in omega arith
-
 -- a number's loop at place i, where n is read
-pub record Reading (base : ℕ) (s : List ℕ) (from to n i : ℕ) : Type 0 where
-  pub within : i ≤ to
-  pub is : number_from base 0 (slice from to s) ≡ number_from base n (slice i to s)
+pub record Reading (base : ℕ) (s : List ℕ) (n i : ℕ) : Type 0 where
+  pub is : number_from base 0 s ≡ number_from base n (drop i s)
 
-module _ {base : ℕ} {s : List ℕ} {from to n i d : ℕ} (r : Reading base s from to n i) (l : i < to) (h : to ≤ length s) (v : d ≡ digit_value (get_or s i 0)) where
-  number_step : number_from base 0 (slice from to s)
-      ≡ pick (both (ltb d base) (ltb (n * base + d) (2 ^ 64))) (number_from base (n * base + d) (slice (i + 1) to s)) Nothing
+module _ {base : ℕ} {s : List ℕ} {n i d : ℕ} (r : Reading base s n i) (l : i < length s) (v : d ≡ digit_value (get_or s i 0)) where
+  number_step : number_from base 0 s ≡ pick (both (ltb d base) (ltb (n * base + d) (2 ^ 64))) (number_from base (n * base + d) (drop (i + 1) s)) None
   unfolding number_from
-  number_step = r.is ∙ rw (slice-cons i to s 0 l h, add-one, v)
+  number_step = r.is ∙ rw (drop-cons s i 0 l, add-one, v)
 
-  pub number_bad : base ≤ d → Nothing ≡ number_from base 0 (slice from to s)
+  pub number_bad : base ≤ d → None ≡ number_from base 0 s
   unfolding both
   number_bad k = sym (number_step ∙ rw (le-ltb d base k))
 
-  pub number_over : 0 < base → d ≤ 16 → d < base → (18446744073709551615 - d) / base < n → Nothing ≡ number_from base 0 (slice from to s)
+  pub number_over : d < base → 2 ^ 64 ≤ n * base + d → None ≡ number_from base 0 s
   unfolding both
-  number_over p b k o =
-      let m : 18446744073709551615 - d < n * base = (div-lt_iff_lt-mul p).0 o in
-      sym (number_step ∙ rw (lt-ltb d base k, le-ltb (n * base + d) (2 ^ 64) (omega arith)))
+  number_over k o = sym (number_step ∙ rw (lt-ltb d base k, le-ltb (n * base + d) (2 ^ 64) o))
 
-  pub number_next : 0 < base → d ≤ 16 → d < base → n ≤ (18446744073709551615 - d) / base → Reading base s from to (n * base + d) (i + 1)
+  pub number_next : {m : ℕ} → d < base → m ≡ n * base + d → m < 2 ^ 64 → Reading base s m (i + 1)
   unfolding both
-  number_next p b k o =
-      record { within = omega arith; is = number_step ∙ rw (lt-ltb d base k, lt-ltb (n * base + d) (2 ^ 64) (number_fits base n d p b o)) }
+  number_next {m} k e o = record { is = number_step ∙ rw (← e, lt-ltb d base k, lt-ltb m (2 ^ 64) o) }
 
-pub number_end : {base : ℕ} {s : List ℕ} {from to n i : ℕ} → Reading base s from to n i → to ≤ i → Number n ≡ number_from base 0 (slice from to s)
+pub number_end : {base : ℕ} {s : List ℕ} {n i : ℕ} → Reading base s n i → length s ≤ i → Some n ≡ number_from base 0 s
 unfolding number_from
-number_end {base} {s} {from} {to} {n} {i} r l =
-    let e : i ≡ to = omega arith in
-    sym (r.is ∙ rw (e, slice_empty))
-
--- a number below the largest quotient has room for one digit more
-pub fits_below : (base n d : ℕ) → 0 < base → d < base → n < 18446744073709551615 / base → n ≤ (18446744073709551615 - d) / base
-fits_below base n d p k l =
-    let m : (n + 1) * base ≤ 18446744073709551615 = (le-div_iff_mul-le p).0 (omega arith) in
-    let e : (n + 1) * base ≡ n * base + 1 * base = add-mul n 1 base in
-    (le-div_iff_mul-le p).1 (omega arith)
+number_end {base} {s} {n} {i} r l = sym (r.is ∙ rw (drop_of_length-le s l))
 
 -- a character that is a digit, by its place in the code
 pub digit_low : (c : ℕ) → c < 58 → leb 48 c ≡ ltb (digit_value c) 16
@@ -374,29 +389,22 @@ hex_digits (c ∷ e ∷ l) =
     ∙ ap (λ (n : ℕ). both (eqb n 0) (all_digits (c ∷ e ∷ l))) even
 
 -- a test of hex at place i
-pub record Testing (s : List ℕ) (from to i : ℕ) (good : Bool) : Type 0 where
-  pub within : i ≤ to
-  pub is : is_hex (slice from to s) ≡ both good (all_digits (slice i to s))
+pub record Testing (s : List ℕ) (i : ℕ) (good : Bool) : Type 0 where
+  pub is : is_hex s ≡ both good (all_digits (drop i s))
 
-pub testing_start : (s : List ℕ) (from to : ℕ) → from ≤ to → to ≤ length s → Testing s from to from (eqb ((to - from) % 2) 0)
-testing_start s from to l h = record {
-  within = l;
-  is = hex_digits (slice from to s) ∙ ap (λ (n : ℕ). both (eqb (n % 2) 0) (all_digits (slice from to s))) (length-slice from to s h);
+pub testing_start : (s : List ℕ) → Testing s 0 (eqb (length s % 2) 0)
+testing_start s = record { is = hex_digits s }
+
+pub testing_next : {s : List ℕ} {i : ℕ} {good is_digit more : Bool} → Testing s i good → i < length s
+    → is_digit ≡ ltb (digit_value (get_or s i 0)) 16 → more ≡ both good is_digit → Testing s (i + 1) more
+unfolding all_digits
+testing_next {s} {i} {good} {is_digit} {more} r l d m = record {
+  is = r.is ∙ rw (drop-cons s i 0 l, ← d, m, add-one) (both_assoc good is_digit (all_digits (drop (suc i) s)));
 }
 
-pub testing_next : {s : List ℕ} {from to i : ℕ} {good is_digit more : Bool} → Testing s from to i good → i < to → to ≤ length s
-    → is_digit ≡ ltb (digit_value (get_or s i 0)) 16 → more ≡ both good is_digit → Testing s from to (i + 1) more
+pub testing_end : {s : List ℕ} {i : ℕ} {good : Bool} → Testing s i good → length s ≤ i → good ≡ is_hex s
 unfolding all_digits
-testing_next {s} {from} {to} {i} {good} {is_digit} {more} r l h d m = record {
-  within = omega arith;
-  is = r.is ∙ rw (slice-cons i to s 0 l h, ← d, m, add-one) (both_assoc good is_digit (all_digits (slice (suc i) to s)));
-}
-
-pub testing_end : {s : List ℕ} {from to i : ℕ} {good : Bool} → Testing s from to i good → to ≤ i → good ≡ is_hex (slice from to s)
-unfolding all_digits
-testing_end {s} {from} {to} {i} {good} r l =
-    let e : i ≡ to = omega (arith, r.within) in
-    sym (r.is ∙ rw (e, slice_empty) (both_yes good))
+testing_end {s} {i} {good} r l = sym (r.is ∙ rw (drop_of_length-le s l) (both_yes good))
 
 length_hex : (t : List ℕ) → length (hex_bytes_of t) ≡ length t / 2
 unfolding hex_bytes_of
@@ -405,21 +413,27 @@ length_hex (a ∷ []) = refl
 length_hex (a ∷ b ∷ t) = rw (length_hex t) (omega arith)
 
 -- a text that is read, as its definition says it
-pub of_size_yes : {o : Parsed} {n r size : ℕ} → o ≡ Number n → r ≡ length (decimal n) → r ≡ size → Number n ≡ of_size size o
-unfolding of_size
-of_size_yes {o} {n} {r} {size} e f g = rw (e, eq-eqb (decimal_size n) size (sym (length-decimal n) ∙ sym f ∙ g))
+module _ (l : List ℕ) {read : Option ℕ} (is : read ≡ number_from 10 0 l) where
+  pub decimal_none : read ≡ None → None ≡ decimal_of l
+  unfolding decimal_of of_size
+  decimal_none e = rw (← is, e)
 
-pub of_size_no : {o : Parsed} {n r size : ℕ} → o ≡ Number n → r ≡ length (decimal n) → (r ≡ size → ⊥) → Nothing ≡ of_size size o
-unfolding of_size
-of_size_no {o} {n} {r} {size} e f g = rw (e, ne_eqb (decimal_size n) size (λ h. g (f ∙ length-decimal n ∙ h)))
+  module _ {n size : ℕ} (e : read ≡ Some n) (f : size ≡ length (decimal n)) where
+    pub decimal_short : size ≡ length l → Some n ≡ decimal_of l
+    unfolding decimal_of of_size
+    decimal_short g = rw (← is, e, eq-eqb (decimal_size n) (length l) (sym (length-decimal n) ∙ sym f ∙ g))
 
-pub decimal_of_lem : {r o : Parsed} {k : ℕ} (l : List ℕ) → r ≡ of_size k o → o ≡ number_from 10 0 l → k ≡ length l → r ≡ decimal_of l
-unfolding decimal_of
-decimal_of_lem l e f g = rw (e, f, g)
+    pub decimal_long : (size ≡ length l → ⊥) → None ≡ decimal_of l
+    unfolding decimal_of of_size
+    decimal_long g = rw (← is, e, ne_eqb (decimal_size n) (length l) (λ h. g (f ∙ length-decimal n ∙ h)))
 
-pub hex_word_of_lem : {r : Parsed} (l : List ℕ) → length l ≡ 8 → r ≡ number_from 16 0 l → r ≡ hex_word_of l
+pub hex_word_of_lem : {r : Option ℕ} (l : List ℕ) → length l ≡ 8 → r ≡ number_from 16 0 l → r ≡ hex_word_of l
 unfolding hex_word_of
 hex_word_of_lem l e f = rw (f, eq-eqb (length l) 8 e)
+
+pub hex_word_of_none : (l : List ℕ) → (length l ≡ 8 → ⊥) → None ≡ hex_word_of l
+unfolding hex_word_of
+hex_word_of_none l n = rw (ne_eqb (length l) 8 n)
 
 pub decimal_wrote : (n : ℕ) {size : ℕ} {d l : List ℕ} → size ≡ length (decimal n) → Wrote (digits_of 10 size n) d l → Wrote (decimal n) d l
 unfolding decimal
@@ -462,7 +476,7 @@ pub hex_into_lem : (t before : List ℕ) → is_hex t ≡ true → hex_into t be
 unfolding hex_into
 hex_into_lem t before hex = rw hex
 
-pub not_read : {t d : List ℕ} → is_hex t ≡ false → ReadHex t d d Nothing
+pub not_read : {t d : List ℕ} → is_hex t ≡ false → ReadHex t d d None
 unfolding hex_into
 not_read bad = record { answer = rw bad; is = rw bad }
 
@@ -472,97 +486,111 @@ hex_short [] t h = refl
 hex_short (c ∷ []) t h = absurd (false≢true t)
 hex_short (c ∷ e ∷ l) t h = let y : ⊥ = omega (arith, h) in absurd y
 
--- of a hex text from `from` to `to` the bytes of the first k pairs are read
-pub record Filling (s : List ℕ) (from to : ℕ) (d l : List ℕ) (k : ℕ) : Type 0 where
-  pub good : is_hex (slice from to s) ≡ true
-  pub within : from + 2 * k ≤ to
-  pub left : is_hex (slice (from + 2 * k) to s) ≡ true
+-- of a hex text the bytes of the first k pairs are read
+pub record Filling (s d l : List ℕ) (k : ℕ) : Type 0 where
+  pub good : is_hex s ≡ true
+  pub within : 2 * k ≤ length s
+  pub left : is_hex (drop (2 * k) s) ≡ true
   pub read : List ℕ
   pub count : length read ≡ k
-  pub front : hex_bytes_of (slice from to s) ≡ read ++ hex_bytes_of (slice (from + 2 * k) to s)
+  pub front : hex_bytes_of s ≡ read ++ hex_bytes_of (drop (2 * k) s)
   pub long : length l ≡ length d
   pub is : l ≡ read ++ drop k d
 
-pub filling_start : (s : List ℕ) (from to : ℕ) (d : List ℕ) → from ≤ to → is_hex (slice from to s) ≡ true → Filling s from to d d 0
-filling_start s from to d h hex =
-    let e : from + 2 * 0 ≡ from = omega arith in
-    record { good = hex; within = omega arith; left = rw e hex; read = []; count = refl; front = rw e; long = refl; is = refl }
+pub filling_start : (s d : List ℕ) → is_hex s ≡ true → Filling s d d 0
+filling_start s d hex = record { good = hex; within = omega arith; left = hex; read = []; count = refl; front = refl; long = refl; is = refl }
 
-next_pair : (s : List ℕ) (i to : ℕ) → i + 2 ≤ to → to ≤ length s → slice i to s ≡ get_or s i 0 ∷ get_or s (i + 1) 0 ∷ slice (i + 2) to s
-next_pair s i to k h =
+next_pair : (s : List ℕ) (i : ℕ) → i + 2 ≤ length s → drop i s ≡ get_or s i 0 ∷ get_or s (i + 1) 0 ∷ drop (i + 2) s
+next_pair s i h =
     let e : suc (i + 1) ≡ i + 2 = omega arith in
-    rw (slice-cons i to s 0 (omega arith) h, ← add-one i, slice-cons (i + 1) to s 0 (omega arith) h, e)
+    rw (drop-cons s i 0 (omega arith), ← add-one i, drop-cons s (i + 1) 0 (omega arith), e)
 
-module _ {s : List ℕ} {from to : ℕ} {d l : List ℕ} {k : ℕ} (r : Filling s from to d l k) (h : to ≤ length s) where
-  module _ (a : k < (to - from) / 2) where
-    both_digits : both (ltb (digit_value (get_or s (from + 2 * k) 0)) 16) (both (ltb (digit_value (get_or s (from + 2 * k + 1) 0)) 16) (is_hex (slice (from + 2 * k + 2) to s))) ≡ true
+module _ {s d l : List ℕ} {k : ℕ} (r : Filling s d l k) where
+  module _ (a : k < length s / 2) where
+    both_digits : both (ltb (digit_value (get_or s (2 * k) 0)) 16) (both (ltb (digit_value (get_or s (2 * k + 1) 0)) 16) (is_hex (drop (2 * k + 2) s))) ≡ true
     unfolding is_hex
-    both_digits = sym (ap is_hex (next_pair s (from + 2 * k) to (omega arith) h)) ∙ r.left
+    both_digits = sym (ap is_hex (next_pair s (2 * k) (omega arith))) ∙ r.left
 
-    pub filling_high : digit_value (get_or s (from + 2 * k) 0) < 16
+    pub filling_high : digit_value (get_or s (2 * k) 0) < 16
     filling_high = ltb-true _ 16 (both_parts _ _ both_digits).0
 
-    pub filling_low : digit_value (get_or s (from + 2 * k + 1) 0) < 16
+    pub filling_low : digit_value (get_or s (2 * k + 1) 0) < 16
     filling_low = ltb-true _ 16 (both_parts _ _ (both_parts _ _ both_digits).1).0
 
-    pub filling_next : {x y : ℕ} → x ≡ digit_value (get_or s (from + 2 * k) 0) → y ≡ digit_value (get_or s (from + 2 * k + 1) 0) → to ≤ from + 2 * length d
-        → Filling s from to d (set l k (x * 16 + y)) (k + 1)
+    pub filling_next : {x y : ℕ} → x ≡ digit_value (get_or s (2 * k) 0) → y ≡ digit_value (get_or s (2 * k + 1) 0) → length s ≤ 2 * length d
+        → Filling s d (set l k (x * 16 + y)) (k + 1)
     unfolding hex_bytes_of
     filling_next {x} {y} u v room =
-        let e : from + 2 * (k + 1) ≡ from + 2 * k + 2 = omega arith in
+        let e : 2 * (k + 1) ≡ 2 * k + 2 = omega arith in
         record {
           good = r.good;
           within = omega arith;
           left = rw e (both_parts _ _ (both_parts _ _ both_digits).1).1;
           read = r.read ++ (x * 16 + y) ∷ [];
           count = rw (length-append, r.count) (omega arith);
-          front = r.front ∙ rw (next_pair s (from + 2 * k) to (omega arith) h, ← u, ← v, e, append_assoc);
+          front = r.front ∙ rw (next_pair s (2 * k) (omega arith), ← u, ← v, e, append_assoc);
           long = simp length-set r.long;
           is = rw (r.is, drop-cons d k 0 (omega arith), set_at r.read (get_or d k 0) (drop (suc k) d) (x * 16 + y) k r.count, add-one, append_assoc);
         }
 
-  pub filling_end : (to - from) / 2 ≤ k → ReadHex (slice from to s) d l (Number ((to - from) / 2))
+  pub filling_end : length s / 2 ≤ k → ReadHex s d l (Some (length s / 2))
   unfolding hex_into hex_bytes_of
   filling_end a =
-      let t = slice from to s in
-      let n : length (hex_bytes_of t) ≡ (to - from) / 2 = length_hex t ∙ ap (λ (m : ℕ). m / 2) (length-slice from to s h) in
-      let none = hex_short (slice (from + 2 * k) to s) r.left (rw (length-slice (from + 2 * k) to s h) (omega arith)) in
-      let all : hex_bytes_of t ≡ r.read = r.front ∙ rw (none, append-nil) in
-      record { answer = rw (r.good, n); is = rw (r.good, all, r.count) r.is }
+      let none = hex_short (drop (2 * k) s) r.left (rw (length-drop (2 * k) s) (omega arith)) in
+      let all : hex_bytes_of s ≡ r.read = r.front ∙ rw (none, append-nil) in
+      record { answer = rw (r.good, length_hex s); is = rw (r.good, all, r.count) r.is }
 
--- ---- a search for a byte, one after another
-module _ (a : List ℕ) (b i to : ℕ) (l : i < to) (h : to ≤ length a) where
-  pub index_here : get_or a i 0 ≡ b → index_of b (slice i to a) ≡ 0
-  unfolding index_of
-  index_here e = rw (slice-cons i to a 0 l h, eq-eqb (get_or a i 0) b e)
+-- ---- a search for a byte: one that has come to `start` goes on behind a block that it is past
+pub past_none : (b : ℕ) → Past [] b
+past_none b rest = sym (zero-add (index_of b rest))
 
-  pub index_on : (get_or a i 0 ≡ b → ⊥) → index_of b (slice i to a) ≡ suc (index_of b (slice (suc i) to a))
-  unfolding index_of
-  index_on other = rw (slice-cons i to a 0 l h, ne_eqb (get_or a i 0) b other)
-
-pub index_end : (a : List ℕ) (b i to : ℕ) → i ≡ to → index_of b (slice i to a) ≡ 0
+past_one : (block : List ℕ) (b c : ℕ) → Past block b → (c ≡ b → ⊥) → Past (block ++ c ∷ []) b
 unfolding index_of
-index_end a b i to e = rw (e, slice_empty to a)
+past_one block b c before other rest =
+    rw (append_assoc, before (c ∷ rest), ne_eqb c b other, length-append) (omega arith)
 
--- ---- a search for a byte, sixteen at once
-module _ (a : List ℕ) (start b : ℕ) where
-  pub past_none : Past a start 0 b
-  past_none to l h = rw (zero-add, let e : start + 0 ≡ start = omega arith in e)
+pub past_more : (block : List ℕ) (b i : ℕ) {past more : Bool} → (past ≡ true → Past (take i block) b) → i < length block → more ≡ both past (not (eqb (get_or block i 0) b)) → more ≡ true
+    → Past (take (i + 1) block) b
+past_more block b i {past} before h e t =
+    let ts = both_parts past (not (eqb (get_or block i 0) b)) (sym e ∙ t) in
+    rw (add-one, take-suc block i 0 h) (past_one (take i block) b (get_or block i 0) (before ts.0) (eqb-false (get_or block i 0) b (not-true _ ts.1)))
 
-  past_next : (i : ℕ) → Past a start i b → (get_or a (start + i) 0 ≡ b → ⊥) → Past a start (i + 1) b
-  past_next i before other to l h =
-      let e : suc (start + i) ≡ start + (i + 1) = omega arith in
-      let one = index_on a b (start + i) to (omega arith) h other in
-      let step = subst (λ (j : ℕ). index_of b (slice (start + i) to a) ≡ suc (index_of b (slice j to a))) e one in
-      before to (omega arith) h ∙ ap (λ (n : ℕ). i + n) step ∙ (omega arith)
+-- the place as std has it
+index_is : (b : ℕ) (a : List ℕ) → index_of b a ≡ position_or_len (λ (c : ℕ). eqb c b) a
+unfolding index_of
+index_is b [] = refl
+index_is b (c ∷ a) = go (eqb c b) (index_is b a)
+  where
+    go : (t : Bool) → index_of b a ≡ position_or_len (λ (c : ℕ). eqb c b) a → pick t 0 (suc (index_of b a)) ≡ cond (not t) (1 + position_or_len (λ (c : ℕ). eqb c b) a) 0
+    go true e = refl
+    go false e = rw e (omega arith)
 
-  pub past_more : (i : ℕ) {past more : Bool} → (past ≡ true → Past a start i b) → more ≡ both past (not (eqb (get_or a (start + i) 0) b)) → more ≡ true
-      → Past a start (i + 1) b
-  past_more i {past} before e t =
-      let ts = both_parts past (not (eqb (get_or a (start + i) 0) b)) (sym e ∙ t) in
-      past_next i (before ts.0) (eqb-false (get_or a (start + i) 0) b (not-true _ ts.1))
+pub index_within : (b : ℕ) (a : List ℕ) → index_of b a ≤ length a
+unfolding index_of
+index_within b [] = omega arith
+index_within b (c ∷ a) = chosen (λ (n : ℕ). n ≤ suc (length a)) (eqb c b) (λ e. omega arith) (λ e. suc-le-suc (index_within b a))
 
-  -- a search that has come to `start` goes on behind what it is past
-  pub past_all : (n : ℕ) {to found : ℕ} → found ≡ start + index_of b (slice start to a) → Past a start n b → start + n ≤ to → to ≤ length a
-      → found ≡ start + n + index_of b (slice (start + n) to a)
-  past_all n {to} e past l h = e ∙ ap (λ (m : ℕ). start + m) (past to l h) ∙ sym (add_assoc start n _)
+pub index_found : (b : ℕ) (a : List ℕ) {o : Option ℕ} {r : ℕ}
+    → o ≡ cond (ltb (position_or_len (λ (c : ℕ). eqb c b) a) (length a)) (Some (position_or_len (λ (c : ℕ). eqb c b) a)) None → r ≡ unwrap_or o (length a)
+    → (r ≡ index_of b a) × (r ≤ length a)
+index_found b a {o} {r} e f =
+    let i = index_of b a in
+    let told : o ≡ cond (ltb i (length a)) (Some i) None = rw (index_is b a) e in
+    let within = index_within b a in
+    let is : r ≡ i = either i (length a)
+    (λ l. f ∙ rw (told, lt-ltb i (length a) l))
+    (λ l. f ∙ rw (told, le-ltb i (length a) l) (omega arith)) in
+    (is, omega arith)
+
+-- b is not in the first `start` bytes
+pub record NotBefore (a : List ℕ) (b start : ℕ) : Type 0 where
+  pub within : start ≤ length a
+  pub is : index_of b a ≡ start + index_of b (drop start a)
+
+pub past_all : (a : List ℕ) (b start n : ℕ) {next : ℕ} → NotBefore a b start → Past (take n (drop start a)) b → next ≡ start + n → next ≤ length a → NotBefore a b next
+past_all a b start n {next} r past e l =
+    let s = drop start a in
+    let size : length (take n s) ≡ n = length-take-le n s (rw (length-drop start a) (omega arith)) in
+    let whole : index_of b s ≡ n + index_of b (drop n s) = rw (take-append-drop n s, size) at (past (drop n s)) in
+    let behind : drop n s ≡ drop (start + n) a = drop-drop n start a in
+    record { within = l; is = rw (r.is, whole, behind, e) (omega arith) }

@@ -1,11 +1,9 @@
 -- Lines, addresses, numbers and bytes as text: 'Tabs part the fields, each line ends in a newline; addresses are 8 or 32 lower hex digits,
 -- other numbers decimal without leading zeros.'
-use Rattle.std.specs.Prelude.{ℕ, zero, suc, ◌+◌, ◌-◌, ◌*◌, ◌/◌, ◌%◌, ◌^◌, Bool, true, false, List, [], ◌∷◌, ◌++◌, eqb, leb, ltb, length}
+use Rattle.std.specs.Prelude.{ℕ, zero, suc, ◌+◌, ◌-◌, ◌*◌, ◌/◌, ◌%◌, ◌^◌, Bool, true, false, List, [], ◌∷◌, ◌++◌, eqb, leb, ltb, length, Option, None, Some}
 use Rattle.choice.specs.Choice.{pick, both}
 use Rattle.address.specs.declared.Address.{Address}
 use Rattle.address.specs.declared.Address.TheVariants.{V4, V6}
-use Rattle.text.specs.declared.Parsed.{Parsed}
-use Rattle.text.specs.declared.Parsed.TheVariants.{Number, Nothing}
 
 -- ---- Written
 
@@ -57,21 +55,21 @@ unfoldable pub digit_value : ℕ → ℕ
 digit_value c = pick (ltb c 48) 16 (pick (leb c 57) (c - 48) (pick (ltb c 97) 16 (pick (leb c 102) (c - 87) 16)))
 
 -- the number whose digits are those of n and then these, if each is a digit of the base and the number stays below 2^64
-unfoldable pub number_from : ℕ → ℕ → List ℕ → Parsed
-number_from base n [] = Number n
+unfoldable pub number_from : ℕ → ℕ → List ℕ → Option ℕ
+number_from base n [] = Some n
 number_from base n (c ∷ l) =
-    pick (both (ltb (digit_value c) base) (ltb (n * base + digit_value c) (2 ^ 64))) (number_from base (n * base + digit_value c) l) Nothing
+    pick (both (ltb (digit_value c) base) (ltb (n * base + digit_value c) (2 ^ 64))) (number_from base (n * base + digit_value c) l) None
 
 -- the number, if the text is as long as its decimal digits are
-unfoldable pub of_size : ℕ → Parsed → Parsed
-of_size size (Number n) = pick (eqb (decimal_size n) size) (Number n) Nothing
-of_size size Nothing = Nothing
+unfoldable pub of_size : ℕ → Option ℕ → Option ℕ
+of_size size (Some n) = pick (eqb (decimal_size n) size) (Some n) None
+of_size size None = None
 
-unfoldable pub decimal_of : List ℕ → Parsed
+unfoldable pub decimal_of : List ℕ → Option ℕ
 decimal_of l = of_size (length l) (number_from 10 0 l)
 
-unfoldable pub hex_word_of : List ℕ → Parsed
-hex_word_of l = pick (eqb (length l) 8) (number_from 16 0 l) Nothing
+unfoldable pub hex_word_of : List ℕ → Option ℕ
+hex_word_of l = pick (eqb (length l) 8) (number_from 16 0 l) None
 
 -- whether a text is bytes in hex
 unfoldable pub is_hex : List ℕ → Bool

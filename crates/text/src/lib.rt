@@ -1,13 +1,12 @@
 // Numbers, addresses and bytes as text: decimal without leading zeros, and lower hex. Each is written at the front of lent bytes, and
-// read from a part of lent bytes.
+// read from the whole of lent bytes.
 #![tactic(auto)]
 
 ghost use Rattle.std.specs.Prelude.{◌≡◌, ◌+◌, ◌-◌, ◌*◌, ◌/◌, ◌<◌, ◌≤◌, leb, ltb, length};
-ghost use Rattle.std.proofs.Math.Seq.{slice};
 ghost use Rattle.address.specs.declared.Address.TheVariants.{V6};
 ghost use Rattle.wire.specs.Inner.{Wrote, WroteAt};
 ghost use Rattle.text.specs.Text.{digit, digits_of, decimal, hex_word, address_text, hex_bytes};
-ghost use Rattle.text.specs.Text.{digit_value, number_from, of_size, decimal_of, hex_word_of, is_hex};
+ghost use Rattle.text.specs.Text.{digit_value, number_from, decimal_of, hex_word_of, is_hex};
 ghost use Rattle.text.specs.Inner.{ReadHex};
 
 use address::Address;
@@ -34,24 +33,19 @@ fn put_digits(out: &mut [u8], n: u64, base: u64, width: usize)
     ensures { Wrote (digits_of base width n) out.old out.new }
 {
     let mut left = n;
-    let mut i = width;
-    while 0 < i {
-        i -= 1;
+    for i in (0..width).rev() {
         out[i] = digit(left % base);
-        left = left / base;
+        left /= base;
     }
 }
 
 pub fn decimal_size(n: u64) -> usize
     ensures { (result ≡ length (decimal n)) × (result ≤ 20) }
 {
-    let mut left = n;
-    let mut size: usize = 1;
-    while 10 <= left {
-        left = left / 10;
-        size += 1;
+    if n == 0 {
+        return 1;
     }
-    size
+    n.ilog10() as usize + 1
 }
 
 // How long the number is.
@@ -115,50 +109,27 @@ pub fn put_address(out: &mut [u8], address: Address) -> usize
     }
 }
 
-fn wide(b: u8) -> u64
-    ensures { result ≡ b }
-{
-    b as u64
-}
-
 // All of v.
 pub fn put_hex_bytes(out: &mut [u8], v: &[u8])
     requires { 2 * length v.now ≤ length out.old }
     ensures { Wrote (hex_bytes v.now) out.old out.new }
 {
-    let mut i: usize = 0;
-    while i < v.len() {
-        let place = 2 * i;
-        put_digits(&mut out[place..], wide(v[i]), 16, 2);
-        i += 1;
+    for (i, b) in v.iter().enumerate() {
+        put_digits(&mut out[2 * i..], u64::from(*b), 16, 2);
     }
 }
 
 // ---- Read
 
-// A number that was read, or that the text is none.
-#[derive(Clone, Copy)]
-pub enum Parsed {
-    Number(u64),
-    Nothing,
-}
-
+// The value of a character as a digit, or 16 where it is none.
 pub(crate) fn digit_value(c: u8) -> u64
     ensures { (result ≡ digit_value c) × (result ≤ 16) }
 {
-    if c < 48 {
-        return 16;
+    match c {
+        48..=57 => u64::from(c - 48),
+        97..=102 => u64::from(c - 87),
+        _ => 16,
     }
-    if c <= 57 {
-        return (c - 48) as u64;
-    }
-    if c < 97 {
-        return 16;
-    }
-    if c <= 102 {
-        return (c - 87) as u64;
-    }
-    16
 }
 
 fn is_digit(c: u8) -> bool
@@ -171,79 +142,51 @@ fn is_digit(c: u8) -> bool
     }
 }
 
-// Whether n with a digit more stays below 2^64. Where the base is known, the first bound is a constant.
-fn fits_more(n: u64, base: u64, d: u64) -> bool
-    requires { (0 < base) × ((d ≤ 16) × (d < base)) }
-    ensures { result ≡ leb n ((18446744073709551615 - d) / base) }
-{
-    if n < 18446744073709551615 / base {
-        return true;
-    }
-    n <= (18446744073709551615 - d) / base
-}
-
-// The number whose digits are s from `from` to `to`.
-fn number(s: &[u8], from: usize, to: usize, base: u64) -> Parsed
-    requires { (0 < base) × ((base ≤ 16) × ((from ≤ to) × (to ≤ length s.now))) }
-    ensures { result ≡ number_from base 0 (slice from to s.now) }
+// The number whose digits in the base are s, if each character is such a digit and the number stays below 2^64.
+fn number(s: &[u8], base: u64) -> Option<u64>
+    requires { (0 < base) × (base ≤ 16) }
+    ensures { result ≡ number_from base 0 s.now }
 {
     let mut n: u64 = 0;
-    let mut i = from;
-    while i < to {
-        let d = digit_value(s[i]);
+    for c in s {
+        let d = digit_value(*c);
         if base <= d {
-            return Parsed::Nothing;
+            return None;
         }
-        if !fits_more(n, base, d) {
-            return Parsed::Nothing;
-        }
-        n = n * base + d;
-        i += 1;
+        n = n.checked_mul(base)?.checked_add(d)?;
     }
-    Parsed::Number(n)
+    Some(n)
 }
 
-fn of_size(size: usize, read: Parsed) -> Parsed
-    ensures { result ≡ of_size size read }
+// The number whose decimal text is s.
+pub fn read_decimal(s: &[u8]) -> Option<u64>
+    ensures { result ≡ decimal_of s.now }
 {
-    match read {
-        Parsed::Number(n) => {
-            if decimal_size(n) == size {
-                Parsed::Number(n)
-            } else {
-                Parsed::Nothing
-            }
-        }
-        Parsed::Nothing => Parsed::Nothing,
+    let n = number(s, 10)?;
+    if decimal_size(n) == s.len() {
+        Some(n)
+    } else {
+        None
     }
 }
 
-// The number whose decimal text is s from `from` to `to`.
-pub fn read_decimal(s: &[u8], from: usize, to: usize) -> Parsed
-    requires { (from ≤ to) × (to ≤ length s.now) }
-    ensures { result ≡ decimal_of (slice from to s.now) }
+// The word whose hex text is s: eight digits.
+pub fn read_hex_word(s: &[u8]) -> Option<u64>
+    ensures { result ≡ hex_word_of s.now }
 {
-    of_size(to - from, number(s, from, to, 10))
-}
-
-// The word whose hex text is the eight bytes from `from`.
-pub fn read_hex_word(s: &[u8], from: usize) -> Parsed
-    requires { from + 8 ≤ length s.now }
-    ensures { result ≡ hex_word_of (slice from (from + 8) s.now) }
-{
-    number(s, from, from + 8, 16)
+    if s.len() != 8 {
+        return None;
+    }
+    number(s, 16)
 }
 
 // Every character is looked at: without an early return several are tested at once.
-pub fn is_hex(s: &[u8], from: usize, to: usize) -> bool
-    requires { (from ≤ to) × (to ≤ length s.now) }
-    ensures { result ≡ is_hex (slice from to s.now) }
+pub fn is_hex(s: &[u8]) -> bool
+    ensures { result ≡ is_hex s.now }
 {
-    let mut good = (to - from) % 2 == 0;
-    let mut i = from;
-    while i < to {
-        good = both(good, is_digit(s[i]));
-        i += 1;
+    let mut good = s.len() % 2 == 0;
+    for c in s {
+        good = both(good, is_digit(*c));
     }
     good
 }
@@ -256,23 +199,19 @@ fn value_of_digit(c: u8) -> u8
     c % 16 + 9 * (c / 64)
 }
 
-// The bytes whose hex text is s from `from` to `to`, put at the front of out; how many they are. Where the text is not hex, nothing is
-// written.
-pub fn read_hex_bytes(s: &[u8], from: usize, to: usize, out: &mut [u8]) -> Parsed
-    requires { (from ≤ to) × ((to ≤ length s.now) × (to ≤ from + 2 * length out.old)) }
-    ensures { ReadHex (slice from to s.now) out.old out.new result }
+// The bytes whose hex text is s, put at the front of out; how many they are. Where the text is not hex, nothing is written.
+pub fn read_hex_bytes(s: &[u8], out: &mut [u8]) -> Option<usize>
+    requires { length s.now ≤ 2 * length out.old }
+    ensures { ReadHex s.now out.old out.new result }
 {
-    if !is_hex(s, from, to) {
-        return Parsed::Nothing;
+    if !is_hex(s) {
+        return None;
     }
-    let n = (to - from) / 2;
-    let mut k: usize = 0;
-    while k < n {
-        let i = from + 2 * k;
-        let high = value_of_digit(s[i]);
-        let low = value_of_digit(s[i + 1]);
+    let n = s.len() / 2;
+    for k in 0..n {
+        let high = value_of_digit(s[2 * k]);
+        let low = value_of_digit(s[2 * k + 1]);
         out[k] = high * 16 + low;
-        k += 1;
     }
-    Parsed::Number(n as u64)
+    Some(n)
 }

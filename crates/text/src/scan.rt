@@ -1,6 +1,5 @@
-// The search for a byte in a part of lent bytes, one at a time or sixteen at once.
-ghost use Rattle.std.specs.Prelude.{◌≡◌, true, ◌+◌, ◌≤◌, length};
-ghost use Rattle.std.proofs.Math.Seq.{slice};
+// The search for a byte in lent bytes, one at a time or sixteen at once.
+ghost use Rattle.std.specs.Prelude.{◌≡◌, true, ◌≤◌, length};
 ghost use Rattle.text.specs.Scan.{index_of};
 ghost use Rattle.text.specs.Inner.{Past};
 
@@ -8,46 +7,34 @@ use choice::both;
 
 const BLOCK: usize = 16;
 
-// Whether the byte is none of the block from `start`.
-fn is_past(a: &[u8], start: usize, b: u8) -> bool
-    requires { start + 16 ≤ length a.now }
-    ensures { result ≡ true → Past a.now start 16 b }
+// Whether the byte is none of the block's: all of them are tested at once.
+fn is_past(block: &[u8], b: u8) -> bool
+    ensures { result ≡ true → Past block.now b }
 {
     let mut past = true;
-    let mut i: usize = 0;
-    while i < BLOCK {
-        past = both(past, a[start + i] != b);
-        i += 1;
+    for c in block {
+        past = both(past, *c != b);
     }
     past
 }
 
-// The place of the first b from `from` on and before `to`, or `to` where there is none: one byte after another.
-pub fn find(a: &[u8], from: usize, to: usize, b: u8) -> usize
-    requires { (from ≤ to) × (to ≤ length a.now) }
-    ensures { (result ≡ from + index_of b (slice from to a.now)) × (result ≤ to) }
+// The place of the first b, or the length where there is none: one byte after another.
+pub fn find(a: &[u8], b: u8) -> usize
+    ensures { (result ≡ index_of b a.now) × (result ≤ length a.now) }
 {
-    let mut i = from;
-    while i < to {
-        if a[i] == b {
-            return i;
-        }
-        i += 1;
-    }
-    to
+    a.iter().position(|c| *c == b).unwrap_or(a.len())
 }
 
 // The same, sixteen bytes at once.
-pub fn find_far(a: &[u8], from: usize, to: usize, b: u8) -> usize
-    requires { (from ≤ to) × (to ≤ length a.now) }
-    ensures { (result ≡ from + index_of b (slice from to a.now)) × (result ≤ to) }
+pub fn find_far(a: &[u8], b: u8) -> usize
+    ensures { (result ≡ index_of b a.now) × (result ≤ length a.now) }
 {
-    let mut i = from;
-    while BLOCK <= to - i {
-        if !is_past(a, i, b) {
-            return find(a, i, to, b);
+    let mut start: usize = 0;
+    while BLOCK <= a.len() - start {
+        if !is_past(&a[start..start + BLOCK], b) {
+            break;
         }
-        i += BLOCK;
+        start += BLOCK;
     }
-    find(a, i, to, b)
+    start + find(&a[start..], b)
 }

@@ -2,15 +2,17 @@
 use Prim.Native.Nat.{ℕ, zero, suc, ◌+◌, ◌-◌, ◌*◌, ◌/◌, ◌%◌, ◌^◌, ◌≤◌, ◌<◌}
 use mathlib.Core.Path.{◌≡◌, refl, sym, ap, ap₂, ◌∙◌}
 use mathlib.Core.List.{List, [], ◌∷◌, ◌++◌, append_assoc, append-nil}
-use lib.ListN.{length, get_or, take, drop, replicate, length-append, length-drop, length-replicate, drop_of_length-le}
-use lib.Seq.{get_or-append-add, take_at, drop_at, drop-drop, take_all, take-length, sets, sets-eq}
+use lib.ListN.{length, get_or, take, drop, replicate, length-append, length-drop, drop_of_length-le}
+use lib.Seq.{get_or-append-add, take_at, drop_at, drop-drop, take_all, sets, sets-eq}
 use native.Mathlib.Omega.{arith}
-use native.Mathlib.Nat.{suc-add, suc-mul, pow-suc, add-zero, zero-add, zero-mul, add_assoc, mul_assoc, mul_comm, add-mul, div-div-eq-div-mul, mod-mod, mod-eq_of_lt, mod-lt, mod-one, div-one, pow-succ', div-add-mod'}
+use native.Mathlib.Nat.{suc-mul, pow-suc, zero-add, add_assoc, mod-mod, mod-eq_of_lt, mod-lt, mod-one, div-one, pow-succ', div-add-mod'}
 use lib.Arith.{mod-mul, digits_div, digits_mod, bin_ind}
 use lib.Bits.{bit_xor, differ, xor_step, xor_self}
 use borrow.Rule.Slice.PartMut.{mid_of, put_mid}
 use lib.Dec.{lit<}
-use Rattle.wire.specs.Wire.{num, bytes_of}
+use borrow.Author.Tests.{le-leb, lt-leb}
+use Rattle.std.specs.Int.{bytes_high_first}
+use Rattle.wire.specs.Wire.{num, bytes_of, part_of}
 use Rattle.wire.specs.Inner.{Wrote}
 
 pub pow_pos : (w : ℕ) → 0 < 256 ^ w
@@ -25,14 +27,6 @@ all_same x (suc n) (suc i) = all_same x n i
 
 -- ---- reading
 
--- a number of a + b bytes is one of a bytes, and then one of b bytes
-pub num-add : (s : List ℕ) (at a b : ℕ) → num s at (a + b) ≡ num s at a * 256 ^ b + num s (at + a) b
-unfolding num
-num-add s at zero b = simp (zero-add, zero-mul, add-zero)
-num-add s at (suc a) b =
-    let e : at + 1 + a ≡ at + suc a = omega arith in
-    rw (suc-add, num-add s (at + 1) a b, lib.Pow.pow-add 256 a b, e) (simp (add-mul, mul_assoc, add_assoc))
-
 -- behind p
 pub num-append : (p s : List ℕ) (at w : ℕ) → num (p ++ s) (length p + at) w ≡ num s at w
 unfolding num
@@ -45,13 +39,6 @@ pub length_bytes : (w n : ℕ) → length (bytes_of w n) ≡ w
 unfolding bytes_of
 length_bytes zero n = refl
 length_bytes (suc w) n = ap suc (length_bytes w n)
-
--- n in a + b bytes is n / 256 ^ b in a bytes, and then n in b bytes
-pub bytes_add : (a b n : ℕ) → bytes_of (a + b) n ≡ bytes_of a (n / 256 ^ b) ++ bytes_of b n
-unfolding bytes_of
-bytes_add zero b n = rw zero-add
-bytes_add (suc a) b n =
-    rw (suc-add, bytes_add a b n, lib.Pow.pow-add 256 a b, div-div-eq-div-mul n (256 ^ b) (256 ^ a), mul_comm (256 ^ b) (256 ^ a))
 
 -- the higher digits do not count
 pub bytes_mod : (w n : ℕ) → bytes_of w (n % 256 ^ w) ≡ bytes_of w n
@@ -122,33 +109,38 @@ wrote_then {A} {B} {d} {d1} {y} {m} u a v =
       is = rw (t, p, v.is, r, drop-drop, append-nil, ← append_assoc, length-append, a);
     }
 
+-- the bytes that `to_be_bytes` gives
+pub bytes_be : (w n : ℕ) → bytes_of w n ≡ bytes_high_first w n
+unfolding bytes_of
+bytes_be zero n = refl
+bytes_be (suc zero) n = rw div-one
+bytes_be (suc (suc w)) n = ap (λ (l : List ℕ). n / 256 ^ suc w % 256 ∷ l) (bytes_be (suc w) n)
+
+-- they were copied to the front
+pub wrote_number : (w n : ℕ) {d l : List ℕ} → w ≤ length d → l ≡ bytes_high_first w n ++ drop w d → Wrote (bytes_of w n) d l
+wrote_number w n h e = record { fits = rw length_bytes h; is = rw (length_bytes, bytes_be) e }
+
 -- stores of one byte each, from the first on
 pub wrote_sets : (A d : List ℕ) → length A ≤ length d → Wrote A d (sets d 0 A)
 wrote_sets A d h = record { fits = h; is = rw (sets-eq A d 0 (omega arith), zero-add) }
-
--- a whole slice copied, as `bytes::copy` says it
-pub wrote_copy : (v d l : List ℕ) → length v ≤ length d → l ≡ take (length v) v ++ drop (length v) d → Wrote v d l
-wrote_copy v d l h e = record { fits = h; is = rw (take-length v) at e }
-
--- zeros, one by one
-pub wrote_fill : (i n : ℕ) (d l : List ℕ) → i ≡ n → n ≤ length d → l ≡ replicate i 0 ++ drop i d → Wrote (replicate n 0) d l
-wrote_fill i n d l e h f = record { fits = rw length-replicate h; is = rw length-replicate (rw e at f) }
-
--- a write leaves the length
-pub wrote_length : {A d l : List ℕ} → Wrote A d l → length l ≡ length d
-wrote_length {A} {d} {l} w = ap length w.is ∙ rw (length-append, length-drop) (omega (arith, w.fits))
 
 pub bytes_one : (n : ℕ) → n < 256 → bytes_of 1 n ≡ n ∷ []
 unfolding bytes_of
 bytes_one n h = ap (λ (x : ℕ). x ∷ []) (rw div-one (mod-eq_of_lt h))
 
-pub bytes_two : (n : ℕ) → n < 65536 → bytes_of 2 n ≡ n / 256 ∷ n % 256 ∷ []
-unfolding bytes_of
-bytes_two n h = ap₂ (λ (x y : ℕ). x ∷ y ∷ []) (omega arith) (rw div-one)
+-- ---- a part
 
--- a number written as its upper and its lower half
-pub bytes_halves : (w n : ℕ) → bytes_of w (n / 256 ^ w) ++ bytes_of w (n % 256 ^ w) ≡ bytes_of (w + w) n
-bytes_halves w n = rw (bytes_mod, bytes_add)
+pub part_within : (s : List ℕ) (start n : ℕ) → start + n ≤ length s → part_of s start n ≡ take n (drop start s)
+unfolding part_of
+part_within s start n h = rw (le-leb (start + n) (length s) h)
+
+pub part_outside : (s : List ℕ) (start n : ℕ) → length s < start + n → part_of s start n ≡ []
+unfolding part_of
+part_outside s start n h = rw (lt-leb (start + n) (length s) h)
+
+-- a write leaves the length
+pub wrote_length : {A d l : List ℕ} → Wrote A d l → length l ≡ length d
+wrote_length {A} {d} {l} w = ap length w.is ∙ rw (length-append, length-drop) (omega (arith, w.fits))
 
 -- ---- a field that is XORed with a key, written and read, at every width
 pow_bits : (w : ℕ) → 256 ^ w ≡ 2 ^ (w * 8)

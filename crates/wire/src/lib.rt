@@ -1,93 +1,100 @@
-// Numbers in network order, read at any place of lent bytes and written at their front; XOR; a run of bytes copied; zeros.
+// Numbers in network order, read at any place of lent bytes and written at their front; a run of bytes copied; zeros.
 // Each writer gets the part of a buffer that starts after what is written already, and leaves the bytes behind its own as they were.
 #![tactic(auto)]
 
-ghost use Rattle.std.specs.Prelude.{◌≡◌, ◌+◌, ◌≤◌, length, replicate};
-ghost use Rattle.std.specs.Int.Bits.{bit_xor};
+ghost use Rattle.std.specs.Prelude.{◌≡◌, ℕ, ◌+◌, ◌≤◌, length, replicate};
 ghost use Rattle.wire.specs.Wire.{num, bytes_of, part_of};
 ghost use Rattle.wire.specs.Inner.{Wrote, WroteAt};
 
-// ---- Read
+// ---- Numbers
 
-pub fn u8_at(s: &[u8], at: usize) -> u8
-    requires { at + 1 ≤ length s.now }
-    ensures { result ≡ num s.now at 1 }
-{
-    s[at]
+// An unsigned number in network order, by its width.
+pub trait Number: Copy {
+    // How many bytes it has.
+    ghost width: { ℕ };
+
+    ghost value: { Self → ℕ };
+
+    // The number that stands at a place.
+    fn at(s: &[u8], at: usize) -> Self
+        requires { at + width ≤ length s.now }
+        ensures { value result ≡ num s.now at width };
+
+    // Written at the front.
+    fn put(self, out: &mut [u8])
+        requires { width ≤ length out.old }
+        ensures { Wrote (bytes_of width (value self)) out.old out.new };
+
+    // A value is of one number alone.
+    ghost distinct: { (a b : Self) → value a ≡ value b → a ≡ b };
 }
 
-pub fn u16_at(s: &[u8], at: usize) -> u16
-    requires { at + 2 ≤ length s.now }
-    ensures { result ≡ num s.now at 2 }
-{
-    (s[at] as u16) * 256 + s[at + 1] as u16
+impl Number for u8 {
+    ghost width = { 1 };
+
+    ghost value = { λ n. n };
+
+    fn at(s: &[u8], at: usize) -> u8 {
+        s[at]
+    }
+
+    fn put(self, out: &mut [u8]) {
+        out[0] = self;
+    }
+
+    ghost distinct = { λ a b same. same };
 }
 
-pub fn u32_at(s: &[u8], at: usize) -> u32
-    requires { at + 4 ≤ length s.now }
-    ensures { result ≡ num s.now at 4 }
-{
-    (u16_at(s, at) as u32) * 65536 + u16_at(s, at + 2) as u32
+impl Number for u16 {
+    ghost width = { 2 };
+
+    ghost value = { λ n. n };
+
+    fn at(s: &[u8], at: usize) -> u16 {
+        u16::from_be_bytes([s[at], s[at + 1]])
+    }
+
+    fn put(self, out: &mut [u8]) {
+        out[..2].copy_from_slice(&self.to_be_bytes());
+    }
+
+    ghost distinct = { λ a b same. same };
 }
+
+impl Number for u32 {
+    ghost width = { 4 };
+
+    ghost value = { λ n. n };
+
+    fn at(s: &[u8], at: usize) -> u32 {
+        u32::from_be_bytes([s[at], s[at + 1], s[at + 2], s[at + 3]])
+    }
+
+    fn put(self, out: &mut [u8]) {
+        out[..4].copy_from_slice(&self.to_be_bytes());
+    }
+
+    ghost distinct = { λ a b same. same };
+}
+
+// At a place of the buffer, for numbers one after another within one value.
+pub fn put_at<N: Number>(out: &mut [u8], at: usize, n: N)
+    requires { at + N.width ≤ length out.old }
+    ensures { WroteAt at (bytes_of N.width (N.value n)) out.old out.new }
+{
+    n.put(&mut out[at..]);
+}
+
+// ---- Bytes
 
 // The len bytes from start on, shown and not copied; the empty part where they lie outside.
 pub fn part(s: &[u8], start: usize, len: usize) -> &[u8]
     ensures { result.now ≡ part_of s.now start len }
 {
-    if s.len() < start {
-        return &s[..0];
+    match s.get(start..) {
+        Some(rest) if len <= rest.len() => &rest[..len],
+        _ => &[],
     }
-    if s.len() - start < len {
-        return &s[..0];
-    }
-    &s[start..start + len]
-}
-
-// ---- Written
-
-pub(crate) fn put_u8(out: &mut [u8], n: u8)
-    requires { 1 ≤ length out.old }
-    ensures { Wrote (bytes_of 1 n) out.old out.new }
-{
-    out[0] = n;
-}
-
-pub fn put_u16(out: &mut [u8], n: u16)
-    requires { 2 ≤ length out.old }
-    ensures { Wrote (bytes_of 2 n) out.old out.new }
-{
-    out[0] = (n / 256) as u8;
-    out[1] = (n % 256) as u8;
-}
-
-// At a place of the buffer, for numbers one after another within one value.
-pub fn put_u8_at(out: &mut [u8], at: usize, n: u8)
-    requires { at + 1 ≤ length out.old }
-    ensures { WroteAt at (bytes_of 1 n) out.old out.new }
-{
-    put_u8(&mut out[at..], n);
-}
-
-pub fn put_u16_at(out: &mut [u8], at: usize, n: u16)
-    requires { at + 2 ≤ length out.old }
-    ensures { WroteAt at (bytes_of 2 n) out.old out.new }
-{
-    put_u16(&mut out[at..], n);
-}
-
-pub fn put_u32(out: &mut [u8], n: u32)
-    requires { 4 ≤ length out.old }
-    ensures { Wrote (bytes_of 4 n) out.old out.new }
-{
-    put_u16(out, (n / 65536) as u16);
-    put_u16_at(out, 2, (n % 65536) as u16);
-}
-
-pub fn put_u32_at(out: &mut [u8], at: usize, n: u32)
-    requires { at + 4 ≤ length out.old }
-    ensures { WroteAt at (bytes_of 4 n) out.old out.new }
-{
-    put_u32(&mut out[at..], n);
 }
 
 // All of v.
@@ -103,21 +110,5 @@ pub fn put_zeros(out: &mut [u8], n: usize)
     requires { n ≤ length out.old }
     ensures { Wrote (replicate n 0) out.old out.new }
 {
-    for i in 0..n {
-        out[i] = 0;
-    }
-}
-
-// ---- XOR
-
-pub fn xor_u16(n: u16, key: u16) -> u16
-    ensures { result ≡ bit_xor n key }
-{
-    n ^ key
-}
-
-pub fn xor_u32(n: u32, key: u32) -> u32
-    ensures { result ≡ bit_xor n key }
-{
-    n ^ key
+    out[..n].fill(0);
 }

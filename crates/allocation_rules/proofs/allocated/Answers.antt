@@ -3,4 +3,4 @@ use Rattle.allocation_rules.proofs.allocated.Goals as goal
 
 pub returns : goal.returns
 unfolding allocated
-returns c = rw (c.with_transaction_id.ensures, c.with_allocation.ensures, c.fresh_slot.ensures)
+returns c = rw c.fresh_slot.ensures

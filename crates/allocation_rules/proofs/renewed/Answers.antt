@@ -1,6 +1,7 @@
+use mathlib.Core.Path.{refl}
 use Rattle.allocation_rules.specs.Allocations.{renewed}
 use Rattle.allocation_rules.proofs.renewed.Goals as goal
 
 pub returns : goal.returns
 unfolding renewed
-returns c = c.with_allocation.ensures
+returns c = refl

@@ -1,4 +1,5 @@
+use Rattle.std.proofs.Common.{◌≤◌, length}
 use Rattle.calls.proofs.serve.Given as goal
 
-abbrev pub decreases-loop-turns : goal.decreases-loop-turns
-decreases-loop-turns g l = l.turns
+abbrev pub invariant-loop : goal.invariant-loop
+invariant-loop g l = (l.window.next ≤ l.window.end) × ((l.window.end ≤ length l.input) × (l.window.gathered ≤ length l.output))

@@ -1,5 +1,6 @@
-use mathlib.Core.Path.{refl}
+use mathlib.Core.Path.{refl, ◌∙◌}
 use Rattle.allocation_rules.specs.Allocations.{allocate}
+use Rattle.slot.proofs.Laws.{has_is}
 use Rattle.decisions.proofs.Laws.{surveyed, own-slot-answers}
 use Rattle.decisions.proofs.answer_allocate.Goals as goal
 
@@ -12,7 +13,7 @@ allocate-requires c = rw c.client_call.ensures (c.requires.1, c.requires.0.room,
 pub returns : goal.returns
 returns c = λ slots l e.
     rw (
-      ← surveyed c.args.call (l.room refl) c.has.ensures c.has-2.ensures c.port_for.ensures,
+      ← surveyed c.args.call (l.room refl) (c.is_some.ensures ∙ has_is c.args.survey.own) (c.is_some-2.ensures ∙ has_is c.args.survey.free) c.port_for.ensures,
       ← c.client_call.ensures,
     )
     (own-slot-answers c.args.call (allocate c.client_call.result c.args.datagram.now _)

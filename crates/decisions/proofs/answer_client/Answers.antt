@@ -1,8 +1,9 @@
-use mathlib.Core.Path.{refl, ap}
+use mathlib.Core.Path.{refl, ap, ◌∙◌}
 use Rattle.decisions.specs.declared.client.Asked.TheVariants as Asked
 use Rattle.allocation_rules.specs.Allocations.{refresh}
 use Rattle.permission_rules.specs.Permissions.{create_permission, channel_bind}
 use Rattle.decisions.specs.Inner.{is_data}
+use Rattle.slot.proofs.Laws.{has_is}
 use Rattle.decisions.proofs.Laws.{stun_long, own_answers, client_dropped}
 use Rattle.decisions.proofs.answer_client.Goals as goal
 
@@ -31,13 +32,13 @@ pub returns-in-Allocate : goal.returns-in-Allocate
 returns-in-Allocate c = rw c.in-Allocate.is c.answer_allocate.ensures
 
 pub returns-in-Refresh : goal.returns-in-Refresh
-returns-in-Refresh c = rw (c.in-Refresh.is, ← c.client_call.ensures) (own_answers c.args.call Asked.Refresh c.has.ensures (refresh c.client_call.result c.args.datagram.now) c.refresh.ensures)
+returns-in-Refresh c = rw (c.in-Refresh.is, ← c.client_call.ensures) (own_answers c.args.call Asked.Refresh (c.is_some.ensures ∙ has_is c.args.survey.own) (refresh c.client_call.result c.args.datagram.now) c.refresh.ensures)
 
 pub returns-in-CreatePermission : goal.returns-in-CreatePermission
-returns-in-CreatePermission c = rw (c.in-CreatePermission.is, ← c.client_call-in-CreatePermission.ensures) (own_answers c.args.call Asked.CreatePermission c.has-in-CreatePermission.ensures (create_permission c.client_call-in-CreatePermission.result c.args.datagram.now c.args.denied) c.create_permission.ensures)
+returns-in-CreatePermission c = rw (c.in-CreatePermission.is, ← c.client_call-in-CreatePermission.ensures) (own_answers c.args.call Asked.CreatePermission (c.is_some-in-CreatePermission.ensures ∙ has_is c.args.survey.own) (create_permission c.client_call-in-CreatePermission.result c.args.datagram.now c.args.denied) c.create_permission.ensures)
 
 pub returns-in-ChannelBind : goal.returns-in-ChannelBind
-returns-in-ChannelBind c = rw (c.in-ChannelBind.is, ← c.client_call-in-ChannelBind.ensures) (own_answers c.args.call Asked.ChannelBind c.has-in-ChannelBind.ensures (channel_bind c.client_call-in-ChannelBind.result c.args.datagram.now c.args.denied) c.channel_bind.ensures)
+returns-in-ChannelBind c = rw (c.in-ChannelBind.is, ← c.client_call-in-ChannelBind.ensures) (own_answers c.args.call Asked.ChannelBind (c.is_some-in-ChannelBind.ensures ∙ has_is c.args.survey.own) (channel_bind c.client_call-in-ChannelBind.result c.args.datagram.now c.args.denied) c.channel_bind.ensures)
 
 pub returns-in-Send : goal.returns-in-Send
 returns-in-Send c =

@@ -6,6 +6,4 @@ pub answer_call-requires : goal.answer_call-requires
 answer_call-requires c = search rules
 
 pub returns : goal.returns
-returns c slots l e =
-    let fresh = c.fresh_slot.ensures in
-    rw fresh at (c.answer_call.ensures slots l (fresh ∙ e))
+returns c slots l e = c.answer_call.ensures slots l (c.fresh_slot.ensures ∙ e)

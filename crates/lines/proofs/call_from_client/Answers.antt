@@ -1,6 +1,7 @@
 use Rattle.lines.specs.Lines.{call_from_client}
+use mathlib.Core.Path.{refl}
 use Rattle.lines.proofs.call_from_client.Goals as goal
 
 pub returns : goal.returns
 unfolding call_from_client
-returns c = rw (← c.call_of_client.ensures)
+returns c = refl

@@ -1,23 +1,30 @@
-use mathlib.Core.Path.{ap, ◌∙◌}
 use native.Mathlib.Omega.{arith}
-use Rattle.choice.specs.Choice.{both}
-use Rattle.lines.proofs.Read.{short_after, client_bad, client_asks}
+use Rattle.lines.proofs.Read.{client_no_time, client_no_user, client_no_start, client_no_address, client_no_port, client_asks, number_short, address_short}
 use Rattle.lines.proofs.client_line.Goals as goal
 
-pub returns-then-not-good : goal.returns-then-not-good
-returns-then-not-good c = client_bad c.number_field-time.ensures c.after_field-after_time.ensures c.number_field-user.ensures c.after_field-after_user.ensures c.number_field-start.ensures c.after_field-after_start.ensures c.address_field-client.ensures c.after_field-after_client.ensures c.number_field-port.ensures c.after_field-after_port.ensures (c.both-good.ensures ∙ ap (both _) (c.both-4.ensures ∙ ap (both _) (c.both-3.ensures ∙ ap (both _) (c.both-2.ensures ∙ ap (both _) c.both.ensures)))) c.if-not-good.true
+pub returns-in_err-time : goal.returns-in_err-time
+returns-in_err-time c = rw c.from_residual.ensures (client_no_time _ c.in_err-time.ensures.value)
 
-pub overflow_cast-user : goal.overflow_cast-user
-overflow_cast-user c = record { fits = omega (arith, c.number_field-user.ensures.value_fits) }
+pub returns-in_err-user : goal.returns-in_err-user
+returns-in_err-user c = rw c.from_residual-in_err-user.ensures (client_no_user _ c.in_ok-time.ensures.value c.in_err-user.ensures.value)
 
-pub overflow_cast-start : goal.overflow_cast-start
-overflow_cast-start c = record { fits = omega (arith, c.number_field-start.ensures.value_fits) }
+pub returns-in_err-start : goal.returns-in_err-start
+returns-in_err-start c = rw c.from_residual-in_err-start.ensures (client_no_start _ c.in_ok-time.ensures.value c.in_ok-user.ensures.value c.in_err-start.ensures.value)
 
-pub overflow_cast-port : goal.overflow_cast-port
-overflow_cast-port c = record { fits = omega (arith, c.number_field-port.ensures.value_fits) }
+pub returns-in_err-address : goal.returns-in_err-address
+returns-in_err-address c = rw c.from_residual-in_err-address.ensures (client_no_address _ c.in_ok-time.ensures.value c.in_ok-user.ensures.value c.in_ok-start.ensures.value c.in_err-address.ensures)
+
+pub returns-in_err-port : goal.returns-in_err-port
+returns-in_err-port c = rw c.from_residual-in_err-port.ensures (client_no_port _ c.in_ok-time.ensures.value c.in_ok-user.ensures.value c.in_ok-start.ensures.value c.in_ok-address.ensures c.in_err-port.ensures.value)
 
 pub with_datagram-requires : goal.with_datagram-requires
-with_datagram-requires c = (omega (arith, c.requires.0, short_after c.args.left.now c.number_field-time.result.end c.after_field-after_time.ensures, short_after c.after_field-after_time.result.now c.number_field-user.result.end c.after_field-after_user.ensures, short_after c.after_field-after_user.result.now c.number_field-start.result.end c.after_field-after_start.ensures, short_after c.after_field-after_start.result.now c.address_field-client.result.end c.after_field-after_client.ensures, short_after c.after_field-after_client.result.now c.number_field-port.result.end c.after_field-after_port.ensures), c.requires.1)
+with_datagram-requires c =
+    let t = number_short _ _ c.in_ok-time.ensures.value in
+    let u = number_short _ _ c.in_ok-user.ensures.value in
+    let s = number_short _ _ c.in_ok-start.ensures.value in
+    let a = address_short _ c.in_ok-address.ensures in
+    let p = number_short _ _ c.in_ok-port.ensures.value in
+    (omega arith, omega arith)
 
 pub returns : goal.returns
-returns c = client_asks c.number_field-time.ensures c.after_field-after_time.ensures c.number_field-user.ensures c.after_field-after_user.ensures c.number_field-start.ensures c.after_field-after_start.ensures c.address_field-client.ensures c.after_field-after_client.ensures c.number_field-port.ensures c.after_field-after_port.ensures (c.both-good.ensures ∙ ap (both _) (c.both-4.ensures ∙ ap (both _) (c.both-3.ensures ∙ ap (both _) (c.both-2.ensures ∙ ap (both _) c.both.ensures)))) c.if-not-good.false c.call_from_client-call.ensures c.with_datagram.ensures
+returns c = client_asks _ c.in_ok-time.ensures.value c.in_ok-user.ensures.value c.in_ok-start.ensures.value c.in_ok-address.ensures c.in_ok-port.ensures.value c.call_from_client-call.ensures c.with_datagram.ensures

@@ -1,20 +1,26 @@
-use mathlib.Core.Path.{ap, ◌∙◌}
 use native.Mathlib.Omega.{arith}
-use Rattle.choice.specs.Choice.{both}
-use Rattle.lines.proofs.Read.{short_after, peer_bad, peer_asks}
+use Rattle.lines.proofs.Read.{peer_no_time, peer_no_address, peer_no_port, peer_no_relay_port, peer_asks, number_short, address_short}
 use Rattle.lines.proofs.peer_line.Goals as goal
 
-pub returns-then-not-good : goal.returns-then-not-good
-returns-then-not-good c = peer_bad c.number_field-time.ensures c.after_field-after_time.ensures c.address_field-peer.ensures c.after_field-after_peer.ensures c.number_field-port.ensures c.after_field-after_port.ensures c.number_field-relay_port.ensures c.after_field-after_relay_port.ensures (c.both-good.ensures ∙ ap (both _) (c.both-3.ensures ∙ ap (both _) (c.both-2.ensures ∙ ap (both _) c.both.ensures))) c.if-not-good.true
+pub returns-in_err-time : goal.returns-in_err-time
+returns-in_err-time c = rw c.from_residual.ensures (peer_no_time _ c.in_err-time.ensures.value)
 
-pub overflow_cast-port : goal.overflow_cast-port
-overflow_cast-port c = record { fits = omega (arith, c.number_field-port.ensures.value_fits) }
+pub returns-in_err-address : goal.returns-in_err-address
+returns-in_err-address c = rw c.from_residual-in_err-address.ensures (peer_no_address _ c.in_ok-time.ensures.value c.in_err-address.ensures)
 
-pub overflow_cast-relay_port : goal.overflow_cast-relay_port
-overflow_cast-relay_port c = record { fits = omega (arith, c.number_field-relay_port.ensures.value_fits) }
+pub returns-in_err-port : goal.returns-in_err-port
+returns-in_err-port c = rw c.from_residual-in_err-port.ensures (peer_no_port _ c.in_ok-time.ensures.value c.in_ok-address.ensures c.in_err-port.ensures.value)
+
+pub returns-in_err-relay_port : goal.returns-in_err-relay_port
+returns-in_err-relay_port c = rw c.from_residual-in_err-relay_port.ensures (peer_no_relay_port _ c.in_ok-time.ensures.value c.in_ok-address.ensures c.in_ok-port.ensures.value c.in_err-relay_port.ensures.value)
 
 pub with_datagram-requires : goal.with_datagram-requires
-with_datagram-requires c = (omega (arith, c.requires.0, short_after c.args.left.now c.number_field-time.result.end c.after_field-after_time.ensures, short_after c.after_field-after_time.result.now c.address_field-peer.result.end c.after_field-after_peer.ensures, short_after c.after_field-after_peer.result.now c.number_field-port.result.end c.after_field-after_port.ensures, short_after c.after_field-after_port.result.now c.number_field-relay_port.result.end c.after_field-after_relay_port.ensures), c.requires.1)
+with_datagram-requires c =
+    let t = number_short _ _ c.in_ok-time.ensures.value in
+    let a = address_short _ c.in_ok-address.ensures in
+    let p = number_short _ _ c.in_ok-port.ensures.value in
+    let r = number_short _ _ c.in_ok-relay_port.ensures.value in
+    (omega arith, omega arith)
 
 pub returns : goal.returns
-returns c = peer_asks c.number_field-time.ensures c.after_field-after_time.ensures c.address_field-peer.ensures c.after_field-after_peer.ensures c.number_field-port.ensures c.after_field-after_port.ensures c.number_field-relay_port.ensures c.after_field-after_relay_port.ensures (c.both-good.ensures ∙ ap (both _) (c.both-3.ensures ∙ ap (both _) (c.both-2.ensures ∙ ap (both _) c.both.ensures))) c.if-not-good.false c.call_from_peer-call.ensures c.with_datagram.ensures
+returns c = peer_asks _ c.in_ok-time.ensures.value c.in_ok-address.ensures c.in_ok-port.ensures.value c.in_ok-relay_port.ensures.value c.call_from_peer-call.ensures c.with_datagram.ensures

@@ -5,4 +5,4 @@ use Rattle.messages.proofs.put_address_head.Goals as goal
 
 pub returns : goal.returns
 unfolding address_head bytes_of
-returns c = (rw c.xor_u16.ensures at c.put_u16_at-2.ensures) _ _ refl (c.put_u16_at.ensures _ _ refl c.put_attribute_head.ensures)
+returns c = c.put_at-2.ensures _ _ refl (c.put_at.ensures _ _ refl c.put_attribute_head.ensures)

@@ -5,17 +5,8 @@ use Rattle.wire.specs.Wire.{bytes_of}
 use Rattle.wire.proofs.Laws.{wrote_then}
 use Rattle.address.specs.declared.Address.TheVariants.{V4}
 use Rattle.messages.specs.Messages.{header_bytes, address_attribute, lifetime_attribute, allocate_success}
-use Rattle.messages.proofs.Laws.{address_small, length_address, message_sent}
+use Rattle.messages.proofs.Laws.{length_address, message_sent}
 use Rattle.messages.proofs.put_allocate_success.Goals as goal
-
-pub overflow_add-len : goal.overflow_add-len
-overflow_add-len c = omega (arith, address_small c.args.client.address)
-
-pub overflow_cast-len : goal.overflow_cast-len
-overflow_cast-len c = omega (arith, address_small c.args.client.address)
-
-pub overflow_add-result : goal.overflow_add-result
-overflow_add-result c = omega (arith, address_small c.args.client.address)
 
 pub returns : goal.returns
 unfolding header_bytes allocate_success bytes_of

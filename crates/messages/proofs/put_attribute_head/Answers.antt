@@ -4,4 +4,4 @@ use Rattle.messages.proofs.put_attribute_head.Goals as goal
 
 pub returns : goal.returns
 unfolding attribute_head
-returns c = c.put_u16_at.ensures _ _ (length_bytes 2 _) c.put_u16.ensures
+returns c = c.put_at.ensures _ _ (length_bytes 2 _) c.put.ensures

@@ -7,4 +7,4 @@ use Rattle.messages.proofs.put_channel_data.Goals as goal
 
 pub returns : goal.returns
 unfolding channel_data bytes_of
-returns c = record { wrote = wrote_then (c.put_u16_at.ensures _ _ refl c.put_u16.ensures) refl c.put_bytes.ensures; size = omega arith }
+returns c = record { wrote = wrote_then (c.put_at.ensures _ _ refl c.put.ensures) refl c.put_bytes.ensures; size = omega arith }

@@ -6,4 +6,4 @@ use Rattle.messages.proofs.put_error_code.Goals as goal
 
 pub returns : goal.returns
 unfolding error_code_attribute attribute_head bytes_of
-returns c = c.put_u8_at-2.ensures _ _ refl (c.put_u8_at.ensures _ _ refl (c.put_u16_at.ensures _ _ refl c.put_attribute_head.ensures))
+returns c = c.put_at-3.ensures _ _ refl (c.put_at-2.ensures _ _ refl (c.put_at.ensures _ _ refl c.put_attribute_head.ensures))

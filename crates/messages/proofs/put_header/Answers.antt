@@ -6,4 +6,4 @@ use Rattle.messages.proofs.put_header.Goals as goal
 
 pub returns : goal.returns
 unfolding header_bytes bytes_of
-returns c = wrote_then (c.put_u32_at.ensures _ _ refl (c.put_u16_at.ensures _ _ refl c.put_u16.ensures)) refl c.put_transaction_id.ensures
+returns c = wrote_then (c.put_at-2.ensures _ _ refl (c.put_at.ensures _ _ refl c.put.ensures)) refl c.put_transaction_id.ensures

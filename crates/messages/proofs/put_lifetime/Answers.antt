@@ -6,4 +6,4 @@ use Rattle.messages.proofs.put_lifetime.Goals as goal
 
 pub returns : goal.returns
 unfolding lifetime_attribute attribute_head bytes_of
-returns c = c.put_u32_at.ensures _ _ refl c.put_attribute_head.ensures
+returns c = c.put_at.ensures _ _ refl c.put_attribute_head.ensures

@@ -5,4 +5,4 @@ use Rattle.messages.proofs.put_transaction_id.Goals as goal
 
 pub returns : goal.returns
 unfolding transaction_id_bytes bytes_of
-returns c = c.put_u32_at-2.ensures _ _ refl (c.put_u32_at.ensures _ _ refl c.put_u32.ensures)
+returns c = c.put_at-2.ensures _ _ refl (c.put_at.ensures _ _ refl c.put.ensures)

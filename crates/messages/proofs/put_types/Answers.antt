@@ -1,4 +1,4 @@
-use mathlib.Core.Path.{◌≡◌, refl}
+use mathlib.Core.Path.{refl}
 use native.Mathlib.Omega.{arith}
 use Rattle.wire.proofs.Laws.{wrote_length}
 use Rattle.messages.specs.Messages.{types_bytes}
@@ -9,14 +9,8 @@ pub loop-i-init : goal.loop-i-init
 unfolding types_bytes
 loop-i-init c = (omega arith, record { fits = omega arith; is = refl })
 
-pub put_u16_at-requires : goal.put_u16_at-requires
-put_u16_at-requires c = omega (arith, wrote_length c.loop-i.invariant.1)
+pub put_at-requires : goal.put_at-requires
+put_at-requires c = omega (arith, wrote_length c.loop-i.invariant.1)
 
 pub loop-i-preserved : goal.loop-i-preserved
-loop-i-preserved c = (omega arith, wrote_type _ c.loop-i.i (omega arith) c.loop-i.invariant.1 c.put_u16_at.ensures)
-
-pub shape_of-out : goal.shape_of-out
-shape_of-out c = wrote_length c.loop-i.invariant.1
-
-pub returns : goal.returns
-returns c = let e : c.args.count ≡ c.loop-i.i = omega arith in rw e c.loop-i.invariant.1
+loop-i-preserved c = (omega arith, wrote_type _ c.loop-i.i (omega arith) c.loop-i.invariant.1 c.put_at.ensures)

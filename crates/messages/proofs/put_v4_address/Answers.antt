@@ -6,4 +6,4 @@ use Rattle.messages.proofs.put_v4_address.Goals as goal
 
 pub returns : goal.returns
 unfolding address_attribute address_head bytes_of
-returns c id = (rw c.xor_u32.ensures at c.put_u32_at.ensures) _ _ refl c.put_address_head.ensures
+returns c id = c.put_at.ensures _ _ refl c.put_address_head.ensures

@@ -1,11 +1,8 @@
-use Rattle.script.proofs.Run.{line_in_part, line_in_past, line_in_back}
+use Rattle.std.proofs.Common.{List, ℕ, refl, ap, ◌∙◌, Bor}
+use Rattle.script.proofs.Run.{line_in_got}
 use Rattle.script.proofs.line_in.Goals as goal
 
-pub returns-then-end-input : goal.returns-then-end-input
-returns-then-end-input c = line_in_part c.args.start c.args.end c.args.input.now c.if-start-end.true c.if-end-input.true
-
-pub returns-else-end-input : goal.returns-else-end-input
-returns-else-end-input c = line_in_past c.args.start c.args.end c.args.input.now c.if-start-end.true c.if-end-input.false
-
-pub returns-else-start-end : goal.returns-else-start-end
-returns-else-start-end c = line_in_back c.args.start c.args.end c.args.input.now c.if-start-end.false
+pub returns : goal.returns
+returns c =
+    let now = λ (r : Bor (List ℕ)). r.now in
+    ap now c.unwrap_or.ensures ∙ line_in_got now c.args.start c.args.end c.args.input.now c.get.result _ refl c.get.ensures.lookup

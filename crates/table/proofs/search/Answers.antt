@@ -1,9 +1,9 @@
--- What the loop has passed by has not the key: the slot that is found is the first, and where none is found there is none.
-use Rattle.slot.proofs.Laws.{find_at, find_past}
+use Rattle.std.proofs.Common.{rules}
+use Rattle.std.proofs.lemmas.Iterator.{YieldsList-from_slice}
+use Rattle.slot.proofs.Laws.{found_by}
+use Rattle.table.specs.Table.{in_slot}
+use Rattle.table.specs.Inner.{keyed}
 use Rattle.table.proofs.search.Goals as goal
 
-pub returns-then-matches : goal.returns-then-matches
-returns-then-matches c = find_at c.loop-i.invariant c.loop-i-test.true (cc) c.if-matches.true
-
 pub returns : goal.returns
-returns c = find_past c.loop-i.invariant c.loop-i-test.false
+returns c = found_by (in_slot (keyed c.args.time c.args.key)) _ c.position.ensures.ran (YieldsList-from_slice c.args.slots.now cc) (λ x b q k. search rules)

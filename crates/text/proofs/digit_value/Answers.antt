@@ -1,25 +1,19 @@
-use borrow.Author.Tests.{lt-ltb, le-ltb, le-leb, lt-leb}
+use mathlib.Core.Path.{sym, ◌∙◌}
 use native.Mathlib.Omega.{arith}
-use Rattle.text.specs.Text.{digit_value}
-use borrow.Author.Rules.{rules}
+use Rattle.text.proofs.Laws.{digit_decimal, digit_letter, digit_none}
 use Rattle.text.proofs.digit_value.Goals as goal
 
-pub returns-then-c-lt48 : goal.returns-then-c-lt48
-unfolding digit_value
-returns-then-c-lt48 c = (rw (lt-ltb _ _ c.if-c-lt48.true), search rules)
+pub returns-in-48-to-57 : goal.returns-in-48-to-57
+returns-in-48-to-57 c = (c.from.ensures ∙ sym (digit_decimal c.args.c (omega arith) (omega arith)), omega arith)
 
-pub returns-then-c-le57 : goal.returns-then-c-le57
-unfolding digit_value
-returns-then-c-le57 c = (rw (le-ltb _ _ c.if-c-lt48.false, le-leb _ _ c.if-c-le57.true), omega arith)
+pub returns-in-97-to-102 : goal.returns-in-97-to-102
+returns-in-97-to-102 c = (c.from-in-97-to-102.ensures ∙ sym (digit_letter c.args.c (omega arith) (omega arith)), omega arith)
 
-pub returns-then-c-lt97 : goal.returns-then-c-lt97
-unfolding digit_value
-returns-then-c-lt97 c = (rw (le-ltb _ _ c.if-c-lt48.false, lt-leb _ _ c.if-c-le57.false, lt-ltb _ _ c.if-c-lt97.true), search rules)
+pub returns-in_default : goal.returns-in_default
+returns-in_default c = (digit_none c.args.c (λ a b. omega arith) (λ a b. omega arith), omega arith)
 
-pub returns-then-c-le102 : goal.returns-then-c-le102
-unfolding digit_value
-returns-then-c-le102 c = (rw (le-ltb _ _ c.if-c-lt48.false, lt-leb _ _ c.if-c-le57.false, le-ltb _ _ c.if-c-lt97.false, le-leb _ _ c.if-c-le102.true), omega arith)
+pub returns-in_default-2 : goal.returns-in_default-2
+returns-in_default-2 c = (digit_none c.args.c (λ a b. omega arith) (λ a b. omega arith), omega arith)
 
-pub returns : goal.returns
-unfolding digit_value
-returns c = (rw (le-ltb _ _ c.if-c-lt48.false, lt-leb _ _ c.if-c-le57.false, le-ltb _ _ c.if-c-lt97.false, lt-leb _ _ c.if-c-le102.false), search rules)
+pub returns-in_default-3 : goal.returns-in_default-3
+returns-in_default-3 c = (digit_none c.args.c (λ a b. omega arith) (λ a b. omega arith), omega arith)

@@ -3,10 +3,8 @@ use mathlib.Core.Bool.{true}
 use borrow.Author.Tests.{leb-true}
 use Rattle.wire.specs.Wire.{num}
 use Rattle.choice.proofs.Laws.{both_parts}
-use Rattle.client_reader.specs.declared.Message.TheVariants.{ChannelData}
-use Rattle.client_reader.specs.Fields.{plain}
-use Rattle.client_reader.specs.Inner.{data_fits, channel_fields}
-use Rattle.client_reader.proofs.Same.{checked_if, checked-nothing}
+use Rattle.client_reader.specs.Inner.{data_fits, channel_fields, checked}
+use Rattle.client_reader.proofs.Same.{checked_if}
 use Rattle.client_reader.proofs.Around.{channel_same}
 use Rattle.client_reader.proofs.data.channel_data.Goals as goal
 
@@ -14,10 +12,10 @@ pub returns-then-data_fits : goal.returns-then-data_fits
 unfolding channel_fields data_fits
 returns-then-data_fits c =
     let s = c.args.s.now in
-    let fits : data_fits 4 (num s 2 2) s ≡ true = rw (← c.u16_at-len.ensures) (sym c.data_fits.ensures ∙ c.if-data_fits.true) in
-    let fields : c.plain.result ≡ plain (ChannelData (num s 0 2) 4 (num s 2 2)) = rw (← c.u16_at-len.ensures, ← c.u16_at.ensures) c.plain.ensures in
-    rw fits (checked_if _ s fields c.read_if.ensures (channel_same s (λ i. (c.type_inv.s i).fits) (leb-true _ _ (both_parts _ _ fits).1) _ c.u16_at-len.ensures))
+    let fits : data_fits 4 (num s 2 2) s ≡ true = rw (← c.at-len.ensures) (sym c.data_fits.ensures ∙ c.if-data_fits.true) in
+    let same = channel_same s (λ i. (c.type_inv.s i).fits) (leb-true _ _ (both_parts _ _ fits).1) _ c.at-len.ensures in
+    rw fits (checked_if _ s (rw (c.at.ensures, c.at-len.ensures) at c.then_some.ensures) (rw c.at-len.ensures at same))
 
 pub returns : goal.returns
-unfolding channel_fields data_fits
-returns c = rw (← c.u16_at-len.ensures, ← c.data_fits.ensures, c.if-data_fits.false, checked-nothing) c.nothing.ensures
+unfolding channel_fields data_fits checked
+returns c = rw (← c.at-len.ensures, ← c.data_fits.ensures, c.if-data_fits.false)

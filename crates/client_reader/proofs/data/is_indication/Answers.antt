@@ -15,5 +15,5 @@ returns c =
     let s = a.args.s.now in
     let len = a.args.len in
     let told = zeros_told c.same.result (padding len) (length s - (36 + len)) (drop (36 + len) s) (omega arith) (rw length-drop (omega arith)) c.same.ensures in
-    rw (c.both.ensures, c.indication_head.ensures, c.both-padded.ensures, c.u16_at.ensures, ← a.requires.0)
+    rw (c.both.ensures, c.indication_head.ensures, c.both-padded.ensures, c.at.ensures, ← a.requires.0)
     (indication_same s (λ i. (c.type_inv.s i).fits) len (padding len) a.requires.0 refl a.requires.1 a.requires.2 c.same.result told)

@@ -3,4 +3,4 @@ use Rattle.client_reader.proofs.responses.code_of.Goals as goal
 
 pub returns : goal.returns
 unfolding code_of
-returns c = rw (← c.u8_at.ensures, ← c.u8_at-2.ensures)
+returns c = rw (← c.at.ensures, ← c.at-2.ensures)

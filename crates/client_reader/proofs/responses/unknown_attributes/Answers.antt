@@ -2,8 +2,7 @@ use mathlib.Core.Path.{sym, ◌∙◌}
 use borrow.Author.Rules.{rules}
 use borrow.Author.Tests.{leb-true}
 use Rattle.choice.proofs.Laws.{both_parts}
-use Rattle.client_reader.specs.Inner.{unknown_fields, count_fits}
-use Rattle.client_reader.proofs.Same.{checked-nothing}
+use Rattle.client_reader.specs.Inner.{unknown_fields, count_fits, checked}
 use Rattle.client_reader.proofs.responses.unknown_attributes.Goals as goal
 
 pub types_of-types-requires : goal.types_of-types-requires
@@ -23,9 +22,9 @@ unfolding unknown_fields
 returns-then-all_below c = rw (← c.count_fits.ensures, c.if-count_fits.true, ← c.types_of-types.ensures, ← c.all_below.ensures, c.if-all_below.true) c.unknown_response.ensures
 
 pub returns-then-count_fits : goal.returns-then-count_fits
-unfolding unknown_fields
-returns-then-count_fits c = rw (← c.count_fits.ensures, c.if-count_fits.true, ← c.types_of-types.ensures, ← c.all_below.ensures, c.if-all_below.false, checked-nothing) c.nothing.ensures
+unfolding unknown_fields checked
+returns-then-count_fits c = rw (← c.count_fits.ensures, c.if-count_fits.true, ← c.types_of-types.ensures, ← c.all_below.ensures, c.if-all_below.false)
 
 pub returns : goal.returns
-unfolding unknown_fields
-returns c = rw (← c.count_fits.ensures, c.if-count_fits.false, checked-nothing) c.nothing-2.ensures
+unfolding unknown_fields checked
+returns c = rw (← c.count_fits.ensures, c.if-count_fits.false)

@@ -4,12 +4,12 @@ use Rattle.decisions.specs.Client.{asked_by}
 use Rattle.decisions.proofs.WellFormed.{well_formed_long}
 use Rattle.decisions.proofs.client.asked_by.Goals as goal
 
-pub u16_at-requires : goal.u16_at-requires
-u16_at-requires c = omega (arith, well_formed_long _ (sym c.well_formed-in-Stun.ensures ∙ c.if-well_formed.true))
+pub at-requires : goal.at-requires
+at-requires c = omega (arith, well_formed_long _ (sym c.well_formed-in-Stun.ensures ∙ c.if-well_formed.true))
 
 pub returns-then-well_formed : goal.returns-then-well_formed
 unfolding asked_by
-returns-then-well_formed c = rw (← c.sort.ensures, c.in-Stun.is, ← c.well_formed-in-Stun.ensures, c.if-well_formed.true, ← c.u16_at.ensures, ← c.of.ensures) c.asked_by_kind.ensures
+returns-then-well_formed c = rw (← c.sort.ensures, c.in-Stun.is, ← c.well_formed-in-Stun.ensures, c.if-well_formed.true, ← c.at.ensures, ← c.of.ensures) c.asked_by_kind.ensures
 
 pub returns-else-well_formed : goal.returns-else-well_formed
 unfolding asked_by

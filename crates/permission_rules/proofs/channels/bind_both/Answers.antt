@@ -1,10 +1,9 @@
-use Rattle.permission_rules.specs.Permissions.{bound}
+use mathlib.Core.Path.{sym, ◌∙◌}
+use Rattle.permission_rules.proofs.Laws.{bound-none, bound-some}
 use Rattle.permission_rules.proofs.channels.bind_both.Goals as goal
 
+pub returns-in_err-permitted : goal.returns-in_err-permitted
+returns-in_err-permitted c = c.from_residual.ensures ∙ sym (bound-none c.args.time c.args.number c.args.peer c.args.slot (sym c.permit.ensures ∙ c.in_err-permitted.was))
+
 pub returns : goal.returns
-unfolding bound
-returns c = record {
-  permitted_is = rw c.permit-permission.ensures;
-  bound_is = rw (c.bind-channel.ensures, c.permit-permission.ensures);
-  slot_is = rw (c.bind-channel.ensures, c.permit-permission.ensures);
-}
+returns c = c.bind.ensures ∙ sym (bound-some c.args.time c.args.number c.args.peer c.args.slot (sym c.permit.ensures ∙ c.in_ok-permitted.was))

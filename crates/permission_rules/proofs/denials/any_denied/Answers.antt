@@ -1,20 +1,14 @@
-use mathlib.Core.Path.{refl}
-use native.Mathlib.Omega.{arith}
-use Rattle.stun.proofs.Laws.{peer_onward}
-use Rattle.permission_rules.proofs.Laws.{ask_end, ask_yes, ask_no}
+use mathlib.Core.Path.{◌∙◌}
+use Rattle.std.proofs.Common.{rules, tests, Option}
+use Rattle.std.proofs.lemmas.Iterator.Consumers.{YieldsList-from_first}
+use Rattle.std.proofs.lemmas.Iterator.Search.{any_from_yields_List}
+use Rattle.address.specs.declared.TransportAddress.{TransportAddress}
+use Rattle.stun.specs.Peers.{peers_left}
+use Rattle.permission_rules.specs.Denials.{denied_peer}
+use Rattle.permission_rules.proofs.Laws.{any_listed}
 use Rattle.permission_rules.proofs.denials.any_denied.Goals as goal
 
-pub loop-value-init : goal.loop-value-init
-loop-value-init c = record { is = refl }
-
-pub returns-then-is_denied_peer : goal.returns-then-is_denied_peer
-returns-then-is_denied_peer c = ask_yes c.loop-value.invariant c.next_peer.ensures c.in-One.is c.is_denied_peer.ensures c.if-is_denied_peer.true
-
-pub loop-value-smaller : goal.loop-value-smaller
-loop-value-smaller c = let l = peer_onward c.next_peer.ensures c.in-One.is in omega arith
-
-pub loop-value-preserved : goal.loop-value-preserved
-loop-value-preserved c = ask_no c.loop-value.invariant c.next_peer.ensures c.in-One.is c.is_denied_peer.ensures c.if-is_denied_peer.false
-
-pub returns-in-Done : goal.returns-in-Done
-returns-in-Done c = ask_end c.loop-value.invariant c.next_peer.ensures c.in-Done.is
+pub returns : goal.returns
+returns c =
+    let all = YieldsList-from_first {B = Option TransportAddress} (λ x. x) peers_left {s = c.of.result} _ c.of.ensures in
+    any_from_yields_List (denied_peer c.args.nodes.now) c.any.new.self _ c.any.result c.any.ensures.ran all (λ x b q k. search (rules, tests)) ∙ any_listed _ _

@@ -1,19 +1,22 @@
-use mathlib.Core.Path.{ap}
-use borrow.Author.Tests.{eq-eqb, ne_eqb}
-use Rattle.slot.specs.declared.Placed.{Placed}
-use Rattle.rules.specs.Change.{respond}
-use Rattle.permission_rules.specs.Permissions.{create_permission}
-use Rattle.rules.proofs.Laws.{written_with}
+use mathlib.Core.Path.{ap, ◌∙◌}
+use Rattle.std.specs.Prelude.{Option}
+use Rattle.std.specs.Option.{is_some, unwrap_or}
+use Rattle.stun.specs.Values.{peers}
+use Rattle.slot.specs.declared.Slot.{Slot}
+use Rattle.slot.proofs.Laws.{room_is}
+use Rattle.permission_rules.proofs.Laws.{permitted_or}
+use Rattle.permission_rules.specs.Permissions.{permit_all, create_permission}
+use Rattle.rules.proofs.Laws.{written_with, answers_error, answers_accepted}
 use borrow.Author.Rules.{rules}
 use Rattle.permission_rules.proofs.permissions.create_permission.Goals as goal
 
-pub create_permission_code-code-requires : goal.create_permission_code-code-requires
-create_permission_code-code-requires c = (search rules, ap (λ (p : Placed). p.ok) c.permit_all-placed.ensures)
+pub check_create_permission-requires : goal.check_create_permission-requires
+check_create_permission-requires c = (search rules, c.is_some.ensures ∙ ap is_some c.permit_all-permitted.ensures ∙ room_is (permit_all c.args.call.time (peers c.args.s.now) c.args.was c.args.was))
 
-pub returns-then-code-ne0 : goal.returns-then-code-ne0
-unfolding create_permission respond
-returns-then-code-ne0 c = rw (← c.create_permission_code-code.ensures.0, ne_eqb _ _ c.if-code-ne0.true) c.respond_error.ensures
+pub returns-in-Err : goal.returns-in-Err
+unfolding create_permission
+returns-in-Err c = answers_error _ _ _ _ c.check_create_permission.ensures c.in-Err.is c.respond_error.ensures
 
 pub returns : goal.returns
-unfolding create_permission respond
-returns c = rw (← c.create_permission_code-code.ensures.0, eq-eqb _ _ c.if-code-ne0.false, ← c.transaction_id.ensures) (written_with (ap (λ (p : Placed). p.slot) c.permit_all-placed.ensures) c.put_bare_success-len.ensures)
+unfolding create_permission
+returns c = rw (← c.transaction_id.ensures) (answers_accepted _ _ _ _ c.check_create_permission.ensures c.in_default.is (written_with (c.unwrap_or-slot.ensures ∙ ap (λ (x : Option Slot). unwrap_or x c.args.was) c.permit_all-permitted.ensures ∙ permitted_or c.args.call.time (peers c.args.s.now) c.args.was c.args.was) c.put_bare_success-len.ensures))

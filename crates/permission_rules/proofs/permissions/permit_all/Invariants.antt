@@ -1,12 +1,9 @@
-use Prim.Native.Nat.{◌-◌}
-use lib.ListN.{length}
+use mathlib.Core.Path.{◌≡◌}
 use Rattle.stun.specs.Values.{peers}
+use Rattle.stun.specs.Peers.{peers_left}
+use Rattle.slot.specs.Inner.{made}
 use Rattle.permission_rules.specs.Permissions.{permit_all}
-use Rattle.permission_rules.proofs.Laws.{Permitting}
 use Rattle.permission_rules.proofs.permissions.permit_all.Given as goal
 
 abbrev pub invariant-loop-value : goal.invariant-loop-value
-invariant-loop-value l = Permitting l.time (permit_all l.time (peers l.s) l.slot l.slot) l.s l.at l.slot l.done
-
-abbrev pub decreases-loop-value : goal.decreases-loop-value
-decreases-loop-value l = length l.s - l.at
+invariant-loop-value l = made (permit_all l.time (peers l.s) l.fn.slot l.fn.slot) ≡ made (permit_all l.time (peers_left l.value-iterator) l.fn.slot l.done)

@@ -1,16 +1,14 @@
+use Rattle.slot.specs.Search.{at_or}
+use Rattle.slot.proofs.channels.channel_at.Goals.{in_default-via-in-Some+else-i-lt8, in_default-via-in_default}
+use Rattle.slot.proofs.channels.channel_at.Goals as goal
 use native.Mathlib.Omega.{arith}
 use mathlib.Core.Path.{◌∙◌}
-use Rattle.slot.specs.Search.{at_or}
 use Rattle.slot.proofs.Laws.{at_past}
-use Rattle.slot.proofs.channels.channel_at.Goals as goal
 
-pub returns-then-i-lt8 : goal.returns-then-i-lt8
+pub returns-in-Some : goal.returns-in-Some
 unfolding at_or
-returns-then-i-lt8 c = rw c.in-At.is
+returns-in-Some c = rw c.in-Some.is
 
-pub returns-in-At : goal.returns-in-At
-returns-in-At c = c.fresh_channel.ensures ∙ at_past _ _ c.in-At.is (omega arith)
-
-pub returns : goal.returns
+pub returns-in_default : goal.returns-in_default
 unfolding at_or
-returns c = rw c.in_default.is c.fresh_channel-2.ensures
+returns-in_default c = c.fresh_channel.ensures ∙ elim c.in_default.branch [ in_default-via-in-Some+else-i-lt8 w ↦ at_past _ _ w.in-Some.is (omega arith) | in_default-via-in_default w ↦ rw w.in_default.is ]

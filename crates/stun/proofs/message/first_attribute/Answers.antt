@@ -1,19 +1,17 @@
-use mathlib.Core.Path.{refl}
-use native.Mathlib.Omega.{arith}
-use Rattle.stun.proofs.Laws.{seek_end, seek_here, seek_on, onward}
+use mathlib.Core.Path.{sym, ◌∙◌}
+use lib.Dec.{eqb}
+use borrow.Author.Rules.{rules}
+use Rattle.std.proofs.Common.{tests}
+use Rattle.std.proofs.lemmas.Iterator.Consumers.{YieldsList-from_first}
+use Rattle.std.proofs.lemmas.Iterator.Search.{find_from_yields_List}
+use Rattle.std.proofs.lemmas.Iterator.Adapters.{option_map_id}
+use Rattle.stun.specs.declared.message.Attribute.{Attribute}
+use Rattle.stun.specs.Message.{first_of}
+use Rattle.stun.specs.Inner.{attributes_left}
 use Rattle.stun.proofs.message.first_attribute.Goals as goal
 
-pub loop-attribute-init : goal.loop-attribute-init
-loop-attribute-init c = record { is = refl }
-
-pub returns-then-n-number : goal.returns-then-n-number
-returns-then-n-number c = let k = c in seek_here k.loop-attribute.invariant k.next_attribute.ensures k.in-One.is c.if-n-number.true
-
-pub loop-attribute-smaller : goal.loop-attribute-smaller
-loop-attribute-smaller c = let k = c in let l = onward k.next_attribute.ensures k.in-One.is in omega arith
-
-pub loop-attribute-preserved : goal.loop-attribute-preserved
-loop-attribute-preserved c = let k = c in seek_on k.loop-attribute.invariant k.next_attribute.ensures k.in-One.is c.if-n-number.false
-
-pub returns-in-Done : goal.returns-in-Done
-returns-in-Done c = seek_end c.loop-attribute.invariant c.next_attribute.ensures c.in-Done.is
+pub returns : goal.returns
+unfolding first_of
+returns c =
+    let all = YieldsList-from_first {B = Attribute} (λ x. x) attributes_left {s = c.of.result} _ c.of.ensures in
+    sym (option_map_id c.find.result) ∙ find_from_yields_List (λ (a : Attribute). eqb a.number c.args.number) c.find.new.self _ c.find.result c.find.ensures.ran all (λ x b q k. search (rules, tests))

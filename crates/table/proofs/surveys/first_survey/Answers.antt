@@ -5,4 +5,4 @@ use Rattle.table.proofs.surveys.first_survey.Goals as goal
 
 pub returns : goal.returns
 unfolding find count
-returns c wanted = record { own = refl; held = refl; free = refl; ports = λ k h. c.no_ports.ensures k h }
+returns c wanted user = record { own = refl; held = refl; free = refl; ports = λ k h. c.no_ports.ensures k h }

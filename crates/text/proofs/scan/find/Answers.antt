@@ -1,18 +1,12 @@
-use Rattle.std.proofs.Common.{◌≡◌, sym, ◌∙◌, arith, add-zero, add-one}
-use Rattle.text.proofs.Laws.{index_here, index_on, index_end}
+use Rattle.std.proofs.Common.{rules, tests, eqb, ℕ}
+use Rattle.std.proofs.lemmas.Iterator.{YieldsList-from_slice}
+use Rattle.std.proofs.lemmas.Iterator.Search.{position_from_yields_List}
+use Rattle.text.proofs.Laws.{index_found}
 use Rattle.text.proofs.scan.find.Goals as goal
-
-pub returns-then-a-i : goal.returns-then-a-i
-returns-then-a-i c =
-    let here = index_here c.args.a.now c.args.b c.loop-i.i c.args.to c.loop-i-test.true c.requires.1 c.if-a-i.true in
-    (sym (c.loop-i.invariant.2 ∙ rw (here, add-zero)), c.loop-i.invariant.1)
-
-pub loop-i-preserved : goal.loop-i-preserved
-loop-i-preserved c =
-    let on = index_on c.args.a.now c.args.b c.loop-i.i c.args.to c.loop-i-test.true c.requires.1 c.if-a-i.false in
-    (omega arith, omega arith, c.loop-i.invariant.2 ∙ rw (on, add-one) (omega arith))
 
 pub returns : goal.returns
 returns c =
-    let e : c.loop-i.i ≡ c.args.to = omega arith in
-    (sym (c.loop-i.invariant.2 ∙ rw (index_end c.args.a.now c.args.b c.loop-i.i c.args.to e, add-zero) e), omega arith)
+    let a = c.args.a.now in
+    let b = c.args.b in
+    let found = position_from_yields_List (λ (x : ℕ). eqb x b) _ _ c.position.result c.position.ensures.ran (YieldsList-from_slice a cc) (λ x t q k. search (rules, tests)) in
+    index_found b a found c.unwrap_or.ensures

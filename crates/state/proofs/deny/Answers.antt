@@ -1,4 +1,0 @@
-use Rattle.state.proofs.deny.Goals as goal
-
-pub returns : goal.returns
-returns c = rw (← c.read_denied-reading.ensures)
