@@ -13,12 +13,19 @@ use Rattle.slot.specs.declared.Allocation.{Allocation}
 use Rattle.slot.specs.declared.Slot.{Slot}
 use Rattle.slot.specs.Slot.{fresh_slot, with_allocation, with_transaction_id}
 use Rattle.rules.specs.declared.requests.ClientCall.{ClientCall}
-use Rattle.allocation_rules.specs.declared.Room.{Room}
 use Rattle.rules.specs.Change.{Out, Change, keep, write, to_client, check, respond}
 use Rattle.rules.specs.Values.{lifetime, requested_family, requested_transport, missing, wrong_length, other_than}
 use Rattle.rules.specs.Requests.{request_code, own_code}
 
 -- ---- Allocate
+
+-- what an Allocate is checked against: whether its 5-tuple has a live slot, how many the user holds, whether some slot isn't live, and the port that
+-- a new allocation gets
+pub record Room : Type 0 where
+  pub own : Bool
+  pub held : ℕ
+  pub free : Bool
+  pub port : ℕ
 
 -- request 1: 'An Allocate on a live 5-tuple with the same id and user'. `own` says whether the 5-tuple has a live slot, and `slot` is that one
 unfoldable pub repeats : ClientCall → List ℕ → Bool → Slot → Bool

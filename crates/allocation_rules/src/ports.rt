@@ -10,14 +10,12 @@ pub fn port_for(held: Ports, start: u32) -> u16
     ensures { result ≡ port_for (held_in held) start }
 {
     let from = (start % 128) as u64;
-    let mut i: u64 = 0;
-    while i < 128 {
+    for i in 0..128u64 {
         let k = (from + i) % 128;
         let taken = is_held(held, k);
         if !taken {
             return 49152 + k as u16;
         }
-        i += 1;
     }
     49152 + from as u16
 }

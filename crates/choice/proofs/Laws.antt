@@ -1,7 +1,7 @@
 -- The laws of `pick` and `both`, and the law that the last arm of a `match` on a number cites.
 use Prim.Native.Nat.{ℕ}
 use mathlib.Core.Path.{◌≡◌, refl}
-use mathlib.Core.Bool.{Bool, true, false, false≢true}
+use mathlib.Core.Bool.{Bool, true, false, ◌&&◌, false≢true}
 use mathlib.Core.List.{List, [], ◌∷◌}
 use borrow.Author.Tests.{ne_eqb}
 use Rattle.choice.specs.Choice.{pick, both, lookup}
@@ -30,6 +30,12 @@ pub both_yes : (a : Bool) → both a true ≡ a
 unfolding both
 both_yes true = refl
 both_yes false = refl
+
+-- the language's `&&` and `&` on tests
+pub and_both : (a b : Bool) → (a && b) ≡ both a b
+unfolding both
+and_both true b = refl
+and_both false b = refl
 
 -- what `_` knows after arms of one number each: a tuple nested to the left
 abbrev pub NoneAfter : {X : Type 0} → Type 0 → ℕ → List (ℕ × X) → Type 0

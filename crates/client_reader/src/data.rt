@@ -6,32 +6,30 @@ ghost use Rattle.client_reader.specs.Inner.{checked, data_fits, same_bytes, indi
 
 use crate::Message;
 use check::same;
-use choice::both;
 use stun::kinds::{AttributeKind, MessageKind};
 use stun::values::transaction_id;
 use wire::Number;
 
+#[tactic(auto, unfolding(crate::specs::Inner::data_fits, choice::specs::Choice::both))]
 fn data_fits(start: usize, len: usize, s: &[u8]) -> bool
     requires { (start ≤ 36) × (len < 65536) }
     ensures { result ≡ data_fits start len s.now }
 {
-    both(len <= 1500, start + len <= s.len())
+    len <= 1500 && start + len <= s.len()
 }
 
 // The numbers before the data that are no fields: the type, the cookie, the types of the attributes, and the length and family of the address.
+#[tactic(auto, unfolding(crate::specs::Inner::indication_head, choice::specs::Choice::both))]
 fn indication_head(s: &[u8]) -> bool
     requires { 36 ≤ length s.now }
     ensures { result ≡ indication_head s.now }
 {
-    let address = both(
-        u16::at(s, 20) == AttributeKind::XOR_PEER_ADDRESS,
-        both(u16::at(s, 22) == 8, u16::at(s, 24) == 1),
-    );
-    let kinds = both(
-        u16::at(s, 0) == MessageKind::DATA,
-        u16::at(s, 32) == AttributeKind::DATA,
-    );
-    both(u32::at(s, 4) == stun::COOKIE, both(kinds, address))
+    u32::at(s, 4) == stun::COOKIE
+        && u16::at(s, 0) == MessageKind::DATA
+        && u16::at(s, 32) == AttributeKind::DATA
+        && u16::at(s, 20) == AttributeKind::XOR_PEER_ADDRESS
+        && u16::at(s, 22) == 8
+        && u16::at(s, 24) == 1
 }
 
 // Whether the bytes are a Data indication with len bytes of data.
@@ -42,11 +40,9 @@ fn is_indication(s: &[u8], len: usize) -> bool
     let padding = (len + 3) / 4 * 4 - len;
     let data_end = 36 + len;
     let zeros = [0u8; 3];
-    let padded = both(
-        u16::at(s, 2) as usize == 16 + len + padding,
-        same(&zeros[..padding], &s[data_end..]),
-    );
-    both(indication_head(s), padded)
+    let sized = u16::at(s, 2) as usize == 16 + len + padding;
+    let padded = same(&zeros[..padding], &s[data_end..]);
+    indication_head(s) & (sized & padded)
 }
 
 pub(crate) fn indication(s: &[u8]) -> Option<Message>

@@ -7,7 +7,6 @@ ghost use Rattle.client_reader.specs.Inner.{checked, allocate_fields, refresh_fi
 
 use crate::Message;
 use check::same;
-use choice::both;
 use messages::{
     put_allocate_success, put_bare_success, put_error_response, put_refresh_success,
     put_unknown_response,
@@ -109,14 +108,15 @@ fn all_below(bound: u16, types: [u16; 16]) -> bool
     types.iter().all(|t| *t < bound)
 }
 
+#[tactic(auto, unfolding(crate::specs::Inner::count_fits, choice::specs::Choice::both))]
 fn count_fits(count: usize, s: &[u8]) -> bool
     requires { count < 65536 }
     ensures { result ≡ count_fits count s.now }
 {
-    both(1 <= count, both(count <= 16, 32 + count * 2 <= s.len()))
+    1 <= count && count <= 16 && 32 + count * 2 <= s.len()
 }
 
-// A 420 with these types.
+// A 420 with these types: an array with a count, since there is no heap and memory is fixed.
 fn unknown_response(s: &[u8], method: Method, count: usize, types: [u16; 16]) -> Option<Message>
     requires { (count ≤ 16) × (20 ≤ length s.now) }
     ensures { result ≡ checked (Some (unknown_of method s.now count types)) s.now }
@@ -155,11 +155,12 @@ fn code_of(s: &[u8]) -> u16
 }
 
 // An error that carries no types.
+#[tactic(auto, unfolding(crate::specs::Inner::plain_error_fields, crate::specs::Inner::checked, choice::specs::Choice::both))]
 fn plain_error(s: &[u8], method: Method, code: u16) -> Option<Message>
     requires { 28 ≤ length s.now }
     ensures { result ≡ checked (plain_error_fields method s.now code) s.now }
 {
-    if both(300 <= code, code <= 699) {
+    if 300 <= code && code <= 699 {
         let id = transaction_id(s);
         let message = Message::Error { method, id, code };
         return compared(s, message, |made| {

@@ -1,10 +1,10 @@
 // Send, ChannelData and a peer's datagram: data passes, or is dropped with its cause, and no slot is changed.
 #![tactic(auto)]
 
-ghost use Rattle.std.specs.Prelude.{◌≡◌, ◌≤◌, length};
+ghost use Rattle.std.specs.Prelude.{◌≡◌, ◌≤◌, length, is_some};
 ghost use Rattle.messages.specs.Inner.{Sent};
 ghost use Rattle.rules.specs.Change.{outcome_of};
-ghost use Rattle.rules.specs.Inner.{Gives};
+ghost use Rattle.rules.specs.Inner.{Gives, slot_or_fresh};
 ghost use Rattle.data_rules.specs.Data.{permission_of, send, send_channel_data, relayed, relay_from_peer};
 
 use address::{TransactionId, TransportAddress};
@@ -22,24 +22,24 @@ use stun::peers::first_peer;
 
 // What the permissions say of the peer's IP address.
 #[tactic(auto, unfolding(crate::specs::Data::permission_of))]
-fn permission_of(time: u64, peer: TransportAddress, slot: Slot) -> PermissionState
-    ensures { result ≡ permission_of time peer slot }
+fn permission_of(time: u64, peer: TransportAddress, slot: &Slot) -> PermissionState
+    ensures { result ≡ permission_of time peer slot.now }
 {
     permission_state(time, peer.address, slot.permissions)
 }
 
-// A Send indication.
+// A Send indication. `own` is the live slot of the 5-tuple.
 #[tactic(auto, unfolding(crate::specs::Data::send, crate::specs::Data::send_cause, crate::specs::Data::unless_dropped, choice::specs::Choice::any, rules::specs::Values::malformed_peer, rules::specs::Values::ipv6_peer))]
-pub fn send(s: &[u8], call: ClientCall, own: bool, slot: Slot) -> Outcome
+pub fn send(s: &[u8], call: ClientCall, own: Option<&Slot>) -> Outcome
     requires { 20 ≤ length s.now }
-    ensures { result ≡ outcome_of (send call s.now own slot) }
+    ensures { result ≡ outcome_of (send call s.now (is_some own.entry) (slot_or_fresh own.entry)) }
 {
     if any_unknown(s) {
         return Outcome::DroppedOther;
     }
-    if !own {
+    let Some(slot) = own else {
         return Outcome::DroppedOther;
-    }
+    };
     let Some(peer) = first_peer(s) else {
         return Outcome::DroppedOther;
     };
@@ -61,17 +61,17 @@ pub fn send(s: &[u8], call: ClientCall, own: bool, slot: Slot) -> Outcome
     }
 }
 
-// A ChannelData message.
+// A ChannelData message. `own` is the live slot of the 5-tuple.
 #[tactic(auto, unfolding(crate::specs::Data::send_channel_data))]
-pub fn send_channel_data(s: &[u8], call: ClientCall, own: bool, slot: Slot) -> Outcome
-    ensures { result ≡ outcome_of (send_channel_data call s.now own slot) }
+pub fn send_channel_data(s: &[u8], call: ClientCall, own: Option<&Slot>) -> Outcome
+    ensures { result ≡ outcome_of (send_channel_data call s.now (is_some own.entry) (slot_or_fresh own.entry)) }
 {
     let Some(message) = read_channel_data(s) else {
         return Outcome::DroppedOther;
     };
-    if !own {
+    let Some(slot) = own else {
         return Outcome::DroppedOther;
-    }
+    };
     let channels = slot.channels;
     let found = channel_by_number(call.time, message.number, channels);
     if found.is_none() {
@@ -93,10 +93,10 @@ fn relay_data(
     time: u64,
     source: TransportAddress,
     id: TransactionId,
-    slot: Slot,
+    slot: &Slot,
 ) -> usize
     requires { (length s.now ≤ 1500) × (1536 ≤ length reply.old) }
-    ensures { Sent (relayed time source id s.now slot) reply.old reply.new result }
+    ensures { Sent (relayed time source id s.now slot.now) reply.old reply.new result }
 {
     let channels = slot.channels;
     let found = channel_by_peer(time, source, channels);
@@ -107,22 +107,21 @@ fn relay_data(
     put_data_indication(reply, id, ipv4_of(source.address), source.port, s)
 }
 
-// A peer's datagram, with the live slot of its relay port if there is one.
+// A peer's datagram. `own` is the live slot of its relay port.
 pub fn relay_from_peer(
     s: &[u8],
     reply: &mut [u8],
     time: u64,
     source: TransportAddress,
     id: TransactionId,
-    own: bool,
-    slot: Slot,
+    own: Option<&Slot>,
 ) -> Outcome
     requires { (length s.now ≤ 1500) × (1536 ≤ length reply.old) }
-    ensures { Gives (relay_from_peer time source id s.now own slot) reply.old reply.new result }
+    ensures { Gives (relay_from_peer time source id s.now (is_some own.entry) (slot_or_fresh own.entry)) reply.old reply.new result }
 {
-    if !own {
+    let Some(slot) = own else {
         return Outcome::DroppedOther;
-    }
+    };
     if is_ipv6(source.address) {
         return Outcome::DroppedOther;
     }

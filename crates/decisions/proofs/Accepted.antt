@@ -18,12 +18,11 @@ use Rattle.messages.specs.Messages.{refresh_success, bare_success}
 use Rattle.slot.specs.declared.Slot.{Slot}
 use Rattle.slot.specs.Slot.{is_channel_number, number_taken, peer_taken, permit, bind}
 use Rattle.rules.specs.declared.requests.ClientCall.{ClientCall}
-use Rattle.allocation_rules.specs.declared.Room.{Room}
 use Rattle.rules.specs.Change.{Out, to_client, Change, keep, write, check, respond, error_message}
 use Rattle.rules.specs.Values.{lifetime, channel_number, number_given, is_ipv6, none, ipv6_peer}
 use Rattle.rules.specs.Requests.{request_code, own_code}
 use Rattle.rules.proofs.Laws.{kept_not_written}
-use Rattle.allocation_rules.specs.Allocations.{repeats, allocate_code, allocated, allocate_reply, allocate, refresh_code, refreshed, refresh, granted, granted_refresh}
+use Rattle.allocation_rules.specs.Allocations.{Room, repeats, allocate_code, allocated, allocate_reply, allocate, refresh_code, refreshed, refresh, granted, granted_refresh}
 use Rattle.permission_rules.specs.Permissions.{permit_all, create_permission_code, create_permission, bound, channel_bind_code, channel_bind}
 
 -- ---- Checks

@@ -20,20 +20,22 @@ use Rattle.slot.specs.declared.Slot.{Slot}
 use Rattle.std.specs.Prelude.{Option, Some, None}
 use Rattle.std.specs.Bool.{then_some}
 use Rattle.slot.specs.Inner.{held_in}
-use Rattle.slot.specs.Search.{find, has, at_or}
-use Rattle.slot.specs.Slot.{fresh_slot, holds_port}
+use Rattle.std.specs.Option.{is_some}
+use Rattle.std.specs.Borrow.{Bor}
+use Rattle.slot.specs.Search.{find, has}
+use Rattle.slot.specs.Slot.{holds_port}
 use Rattle.slot.proofs.Bits as Bits
 use Rattle.table.specs.Table.{in_slot}
-use Rattle.table.specs.Inner.{keyed, Surveyed, Looked}
+use Rattle.table.specs.Inner.{keyed, Surveyed}
 use Rattle.table.specs.declared.keys.Wanted.{Wanted}
 use Rattle.table.specs.declared.surveys.Survey.{Survey}
 use Rattle.rules.specs.declared.answer.Answer.{Answer}
 use Rattle.rules.specs.declared.answer.Outcome.{Outcome}
 use Rattle.rules.specs.declared.answer.Outcome.TheVariants.{DroppedOther}
 use Rattle.decisions.specs.declared.client.Asked.{Asked}
-use Rattle.allocation_rules.specs.declared.Room.{Room}
 use Rattle.rules.specs.Change.{other_cause, Out, dropped, Change, keep, write, outcome_of, reply_after}
-use Rattle.rules.specs.Inner.{Gives, Answers}
+use Rattle.rules.specs.Inner.{Gives, Answers, slot_or_fresh}
+use Rattle.allocation_rules.specs.Inner.{room_in}
 use Rattle.allocation_rules.specs.Allocations.{port_for}
 use Rattle.stun.specs.declared.channel_data.ChannelMessage.{ChannelMessage}
 use Rattle.rules.specs.declared.requests.ClientCall.{ClientCall}
@@ -47,8 +49,8 @@ use Rattle.interface.specs.declared.incoming.Call.{Call}
 use Rattle.interface.specs.declared.incoming.Call.TheVariants.{Client, Peer}
 use Rattle.interface.specs.declared.incoming.FromClient.{FromClient}
 use Rattle.interface.specs.declared.incoming.FromPeer.{FromPeer}
-use Rattle.decisions.specs.Decisions.{ports_held, as_rules, own_place, slot_in, room_for, about_found, about_own, on_asked, decided}
-use Rattle.decisions.specs.Inner.{ReadyClient, ReadyPeer, Ready, UserFits, asked_for, is_data, wanted_by, unwritten}
+use Rattle.decisions.specs.Decisions.{ports_held, as_rules, own_place, room_for, about_found, about_own, on_asked, decided}
+use Rattle.decisions.specs.Inner.{ReadyClient, ReadyPeer, Ready, UserFits, asked_for, is_data, wanted_by, unwritten, Owned}
 
 -- ---- A call that is not refused
 pub ready_client : {call : Call} {client : FromClient} {datagram reply : List ℕ} → call ≡ Client client → Ready call datagram reply
@@ -122,48 +124,39 @@ ports_held_lem {wanted} {slots} {survey} w =
     (λ i h. w.ports i (rw width at h) ∙ sym (rw zero-add at (held_at wanted.time slots 0 128 i (rw width at h))))
 
 -- what Allocate asks of the whole table, from a look over it
-pub surveyed : (call : FromClient) {slots : List Slot} {survey : Survey} {own free : Bool} {port : ℕ}
-    → Surveyed slots (wanted_by (Client call) (Asked.Allocate)) call.user survey → own ≡ has survey.own → free ≡ has survey.free
+pub surveyed : (call : FromClient) {slots : List Slot} {survey : Survey} {free : Bool} {port : ℕ}
+    → Surveyed slots (wanted_by (Client call) (Asked.Allocate)) call.user survey → free ≡ has survey.free
     → port ≡ port_for (held_in survey.ports) call.start
-    → ◌≡◌ {A = Room} (record { own = own; held = survey.held; free = free; port = port }) (room_for call slots)
+    → room_in (record { held = survey.held; free = free; port = port }) (has (own_place call slots)) ≡ room_for call slots
 unfolding keyed
-surveyed call {slots} {survey} w o f p =
+surveyed call {slots} {survey} w f p =
     let q = p ∙ ap (λ (l : List Bool). port_for l call.start) (ports_held_lem w) in
     let g = f ∙ ap has w.free in
-    let h = o ∙ ap has w.own in
-    λ i. record { own = h i; held = w.held i; free = g i; port = q i }
+    λ i. record { own = has (own_place call slots); held = w.held i; free = g i; port = q i }
 
 -- ---- What is decided about the slot that was found
 
 -- a request about the caller's own slot
-module _ (call : FromClient) (asked : Asked) {survey : Survey} {own : Slot} {reply reply' : List ℕ} {answer : Answer} {there : Bool} (h : there ≡ has survey.own) where
-  pub own_answers : (rule : Bool → Slot → Change) → Answers (rule there own) reply reply' answer
-      → (slots : List Slot) → Looked slots (wanted_by (Client call) asked) survey → own ≡ at_or fresh_slot survey.own slots
-      → Answers (about_own call slots rule).change reply reply' answer
-  unfolding keyed
-  own_answers rule w slots l e =
-      subst (λ (f : Option ℕ). Answers (rule (has f) (at_or fresh_slot f slots)) reply reply' answer) l.own
-      (subst (λ (x : Slot). Answers (rule (has survey.own) x) reply reply' answer) e
-      (subst (λ (b : Bool). Answers (rule b own) reply reply' answer) h w))
-
--- the same of Allocate, whose rule is told in another way whether there is one
-pub own-slot-answers : (call : FromClient) {survey : Survey} {own : Slot} {reply reply' : List ℕ} {answer : Answer} (rule : Slot → Change)
-    → Answers (rule own) reply reply' answer → (slots : List Slot) → Looked slots (wanted_by (Client call) Asked.Allocate) survey
-    → own ≡ at_or fresh_slot survey.own slots → Answers (rule (slot_in slots (own_place call slots))) reply reply' answer
-own-slot-answers call rule = own_answers call Asked.Allocate refl (λ there. rule)
+pub own_answers : (call : FromClient) (asked : Asked) {own : Option (Bor Slot)} {reply reply' : List ℕ} {answer : Answer}
+    → (rule : Bool → Slot → Change) → Answers (rule (is_some own) (slot_or_fresh own)) reply reply' answer
+    → (slots : List Slot) → Owned slots (wanted_by (Client call) asked) own → Answers (about_own call slots rule).change reply reply' answer
+unfolding keyed
+own_answers call asked {own} {reply} {reply'} {answer} rule w slots o =
+    subst (λ (x : Slot). Answers (rule (has (own_place call slots)) x) reply reply' answer) o.slot
+    (subst (λ (b : Bool). Answers (rule b (slot_or_fresh own)) reply reply' answer) o.there w)
 
 pub quiet_gives : {out : Out} {outcome : Outcome} (reply : List ℕ) → outcome ≡ outcome_of out → reply_after reply out ≡ reply → Gives out reply reply outcome
 quiet_gives reply e r = record { outcome_is = e; reply_is = sym r }
 
-pub peer_answers : (call : FromPeer) {survey : Survey} {own : Slot} {reply reply' : List ℕ} {outcome : Outcome} {there : Bool} → there ≡ has survey.own
-    → (rule : Bool → Slot → Out) → Gives (rule there own) reply reply' outcome
-    → (slots : List Slot) → Looked slots (wanted_by (Peer call) Asked.Nothing) survey → own ≡ at_or fresh_slot survey.own slots
+pub peer_answers : (call : FromPeer) {own : Option (Bor Slot)} {reply reply' : List ℕ} {outcome : Outcome}
+    → (rule : Bool → Slot → Out) → Gives (rule (is_some own) (slot_or_fresh own)) reply reply' outcome
+    → (slots : List Slot) → Owned slots (wanted_by (Peer call) Asked.Nothing) own
     → Answers (about_found slots (find (in_slot (holds_port call.time call.port)) slots) (λ b slot. keep (rule b slot))).change reply reply' (unwritten outcome)
 unfolding keyed
-peer_answers call {survey} {own} {reply} {reply'} {outcome} {there} h rule g slots l e =
-    subst (λ (f : Option ℕ). Answers (keep (rule (has f) (at_or fresh_slot f slots))) reply reply' (unwritten outcome)) l.own
-    (subst (λ (x : Slot). Answers (keep (rule (has survey.own) x)) reply reply' (unwritten outcome)) e
-    (subst (λ (b : Bool). Answers (keep (rule b own)) reply reply' (unwritten outcome)) h (gives_kept g)))
+peer_answers call {own} {reply} {reply'} {outcome} rule g slots o =
+    let place = find (in_slot (holds_port call.time call.port)) slots in
+    subst (λ (x : Slot). Answers (keep (rule (has place) x)) reply reply' (unwritten outcome)) o.slot
+    (subst (λ (b : Bool). Answers (keep (rule b (slot_or_fresh own))) reply reply' (unwritten outcome)) o.there (gives_kept g))
 
 -- data for which no slot was found is dropped
 module _ (call : ClientCall) (s : List ℕ) (slot : Slot) where
@@ -184,23 +177,23 @@ module _ (call : ClientCall) (s : List ℕ) (slot : Slot) where
 dropped_answers : {out : Out} (reply : List ℕ) → out ≡ dropped other_cause → Answers (keep out) reply reply (unwritten DroppedOther)
 dropped_answers reply e = rw e (gives_kept (quiet_gives reply refl refl))
 
-module _ {survey : Survey} (own : Slot) (reply : List ℕ) (none : has survey.own ≡ false) (s : List ℕ) where
-  pub client_dropped : (denied : Bool) (call : FromClient) (asked : Asked) → is_data asked ≡ true → (slots : List Slot) → Looked slots (wanted_by (Client call) asked) survey
-      → own ≡ at_or fresh_slot survey.own slots → Answers (on_asked denied call s slots asked).change reply reply (unwritten DroppedOther)
+module _ {own : Option (Bor Slot)} (reply : List ℕ) (none : is_some own ≡ false) (s : List ℕ) where
+  pub client_dropped : (denied : Bool) (call : FromClient) (asked : Asked) → is_data asked ≡ true → (slots : List Slot) → Owned slots (wanted_by (Client call) asked) own
+      → Answers (on_asked denied call s slots asked).change reply reply (unwritten DroppedOther)
   client_dropped denied call Asked.Allocate y = absurd (false≢true y)
   client_dropped denied call Asked.Refresh y = absurd (false≢true y)
   client_dropped denied call Asked.CreatePermission y = absurd (false≢true y)
   client_dropped denied call Asked.ChannelBind y = absurd (false≢true y)
   client_dropped denied call Asked.Send y =
-      own_answers call Asked.Send (sym none) (λ there slot. keep (send (as_rules call) s there slot)) (dropped_answers reply (send_unfound (as_rules call) s own))
+      own_answers call Asked.Send (λ there slot. keep (send (as_rules call) s there slot)) (dropped_answers reply (rw none (send_unfound (as_rules call) s (slot_or_fresh own))))
   client_dropped denied call Asked.ChannelData y =
-      own_answers call Asked.ChannelData (sym none) (λ there slot. keep (send_channel_data (as_rules call) s there slot)) (dropped_answers reply (channelled_unfound (as_rules call) s own))
-  client_dropped denied call Asked.Nothing y = λ slots l e. dropped_answers reply refl
+      own_answers call Asked.ChannelData (λ there slot. keep (send_channel_data (as_rules call) s there slot)) (dropped_answers reply (rw none (channelled_unfound (as_rules call) s (slot_or_fresh own))))
+  client_dropped denied call Asked.Nothing y = λ slots o. dropped_answers reply refl
 
-  pub peer_dropped : (denied : Bool) (call : FromPeer) (slots : List Slot) → Looked slots (wanted_by (Peer call) Asked.Nothing) survey
-      → own ≡ at_or fresh_slot survey.own slots → Answers (decided denied (Peer call) s slots).change reply reply (unwritten DroppedOther)
+  pub peer_dropped : (denied : Bool) (call : FromPeer) (slots : List Slot) → Owned slots (wanted_by (Peer call) Asked.Nothing) own
+      → Answers (decided denied (Peer call) s slots).change reply reply (unwritten DroppedOther)
   unfolding decided relay_from_peer peer_cause any unless_dropped
-  peer_dropped denied call = peer_answers call (sym none) (relay_from_peer call.time call.source call.id s) (quiet_gives reply refl refl)
+  peer_dropped denied call = peer_answers call (relay_from_peer call.time call.source call.id s) (rw none (quiet_gives reply refl refl))
 
 -- a request is no data
 pub not_data : {asked it : Asked} {P : Type 0} → asked ≡ it → is_data it ≡ false → is_data asked ≡ true → P

@@ -27,10 +27,9 @@ use Rattle.slot.specs.declared.Slot.{Slot}
 use Rattle.slot.specs.Search.{find, has}
 use Rattle.slot.specs.Slot.{leads_to}
 use Rattle.rules.specs.declared.requests.ClientCall.{ClientCall}
-use Rattle.allocation_rules.specs.declared.Room.{Room}
 use Rattle.rules.specs.Change.{Out, dropped, to_client, to_peer, Change, keep, out_of, error_message, respond}
 use Rattle.rules.specs.Values.{lifetime, ipv4_of}
-use Rattle.allocation_rules.specs.Allocations.{repeats, granted, told_again, newly_made, allocate, refresh}
+use Rattle.allocation_rules.specs.Allocations.{Room, repeats, granted, told_again, newly_made, allocate, refresh}
 use Rattle.permission_rules.specs.Permissions.{create_permission, channel_bind}
 use Rattle.data_rules.specs.Data.{send, send_channel_data, relayed, relay_from_peer}
 use Rattle.data_rules.proofs.Laws.{send_is, channelled_is, from_peer_is}

@@ -7,9 +7,8 @@ use Rattle.slot.specs.Slot.{fresh_slot, holds, holds_user, holds_port}
 use Rattle.table.specs.Table.{in_slot, count, lapsed}
 use Rattle.decisions.specs.declared.client.Asked.{Asked}
 use Rattle.rules.specs.declared.requests.ClientCall.{ClientCall}
-use Rattle.allocation_rules.specs.declared.Room.{Room}
 use Rattle.rules.specs.Change.{other_cause, dropped, Change, keep}
-use Rattle.allocation_rules.specs.Allocations.{allocate, refresh, port_for}
+use Rattle.allocation_rules.specs.Allocations.{Room, allocate, refresh, port_for}
 use Rattle.permission_rules.specs.Permissions.{create_permission, channel_bind}
 use Rattle.permission_rules.specs.Denials.{any_denied, first_denied}
 use Rattle.data_rules.specs.Data.{send, send_channel_data, relay_from_peer}

@@ -3,17 +3,19 @@ use Rattle.std.specs.Prelude.{ℕ, ◌^◌, ◌≤◌, Bool, true, false, List, 
 use Rattle.choice.specs.Choice.{pick}
 use Rattle.slot.specs.declared.Slot.{Slot}
 use Rattle.std.specs.Prelude.{Option, Some, None}
-use Rattle.slot.specs.Search.{at_or}
+use Rattle.std.specs.Option.{is_some}
+use Rattle.std.specs.Borrow.{Bor}
+use Rattle.slot.specs.Search.{has, at_or}
 use Rattle.slot.specs.Slot.{fresh_slot}
 use Rattle.table.specs.declared.keys.Key.{Key}
 use Rattle.table.specs.declared.keys.Wanted.{Wanted}
 use Rattle.table.specs.declared.surveys.Survey.{Survey}
-use Rattle.table.specs.Inner.{place_of, Looked}
+use Rattle.table.specs.Inner.{place_of, searched, Looked}
 use Rattle.rules.specs.declared.answer.Answer.{Answer}
 use Rattle.rules.specs.declared.answer.Outcome.{Outcome}
 use Rattle.decisions.specs.declared.client.Asked.{Asked}
 use Rattle.rules.specs.Change.{Change}
-use Rattle.rules.specs.Inner.{Answers}
+use Rattle.rules.specs.Inner.{Answers, slot_or_fresh}
 use Rattle.decisions.specs.Client.{asked_by}
 use Rattle.interface.specs.declared.incoming.Call.{Call}
 use Rattle.interface.specs.declared.incoming.Call.TheVariants.{Client, Peer}
@@ -91,8 +93,21 @@ unwritten outcome = record { outcome = outcome; written = None }
 abbrev pub place_in : Seen → ℕ
 place_in seen = place_of (place_for seen.asked seen.survey)
 
--- what a function says that decides by the look over the slots: it is so of every table that this is a look over
-abbrev pub Answering : Call → Asked → (List Slot → Change) → Survey → Slot → (reply reply' : List ℕ) → Answer → Type 0
-Answering call asked change survey own reply reply' answer =
-    (slots : List Slot) → Looked slots (wanted_by call asked) survey → own ≡ at_or fresh_slot survey.own slots
-    → Answers (change slots) reply reply' answer
+-- the slot at the place that was found, lent, or none
+pub record Lent (slots : List Slot) (place : Option ℕ) (own : Option (Bor Slot)) : Type 0 where
+  pub there : is_some own ≡ has place
+  pub slot : slot_or_fresh own ≡ at_or fresh_slot place slots
+
+-- the one that a call is about
+abbrev pub Owned : List Slot → Wanted → Option (Bor Slot) → Type 0
+Owned slots wanted own = Lent slots (searched wanted.time wanted.key slots) own
+
+-- what a function says that decides about the slot that was found: it is so of every table that has this slot
+abbrev pub Answering : Call → Asked → (List Slot → Change) → Option (Bor Slot) → (reply reply' : List ℕ) → Answer → Type 0
+Answering call asked change own reply reply' answer =
+    (slots : List Slot) → Owned slots (wanted_by call asked) own → Answers (change slots) reply reply' answer
+
+-- and one that decides by the look over the slots besides
+abbrev pub AnsweringSeen : Call → Asked → (List Slot → Change) → Survey → Option (Bor Slot) → (reply reply' : List ℕ) → Answer → Type 0
+AnsweringSeen call asked change survey own reply reply' answer =
+    (slots : List Slot) → Looked slots (wanted_by call asked) survey → Owned slots (wanted_by call asked) own → Answers (change slots) reply reply' answer

@@ -1,19 +1,16 @@
 // What a call does, by value: what it asks, the look over the slots that this needs, and what becomes of the slot that was found.
 #![tactic(auto)]
 
-ghost use Rattle.std.specs.Prelude.{◌≡◌, Bool, true, false, not, List, ℕ, ◌≤◌, length};
-ghost use Rattle.table.specs.Inner.{place_of};
-ghost use Rattle.slot.specs.Search.{has};
-ghost use Rattle.slot.specs.Slot.{fresh_slot};
+ghost use Rattle.std.specs.Prelude.{◌≡◌, Bool, true, false, List, ℕ, ◌≤◌, length, is_some};
 ghost use Rattle.interface.specs.declared.incoming.Call.TheVariants.{Client, Peer};
 ghost use Rattle.rules.specs.declared.answer.Outcome.TheVariants.{DroppedOther};
 ghost use Rattle.decisions.specs.declared.client.Asked.TheVariants as AskedIs;
 ghost use Rattle.decisions.specs.Client.{asked_by};
 ghost use Rattle.decisions.specs.Decisions.{as_rules, asks_denied, on_asked, decided};
-ghost use Rattle.decisions.specs.Inner.{ReadyClient, ReadyPeer, Ready, UserFits, asked_for, asking_of, allocates, is_data, wanted_by, saw, place_in, unwritten, Answering};
+ghost use Rattle.decisions.specs.Inner.{ReadyClient, ReadyPeer, Ready, UserFits, asked_for, asking_of, allocates, is_data, wanted_by, saw, place_in, unwritten, Answering, AnsweringSeen};
 
 use allocation_rules::ports::port_for;
-use allocation_rules::{allocate, refresh};
+use allocation_rules::{Capacity, allocate, refresh};
 use client::{Asked, asked_by};
 use data_rules::{relay_from_peer, send, send_channel_data};
 use interface::incoming::{Call, FromClient, FromPeer};
@@ -22,7 +19,7 @@ use permission_rules::denials::{any_denied, first_denied};
 use permission_rules::permissions::create_permission;
 use rules::answer::{Answer, Outcome};
 use rules::requests::ClientCall;
-use slot::{Slot, fresh_slot};
+use slot::Slot;
 use table::keys::{Key, Wanted};
 use table::surveys::{Survey, place_of};
 
@@ -117,24 +114,6 @@ pub fn with_survey(asking: Asking, survey: Survey) -> Seen
     }
 }
 
-// Whether no slot was found.
-pub fn finds_none(seen: Seen) -> bool
-    ensures { result ≡ not (has seen.survey.own) }
-{
-    let survey = seen.survey;
-    let own = survey.own;
-    own.is_none()
-}
-
-// The place of the slot that was found.
-pub fn own_place(seen: Seen) -> usize
-    ensures { result ≡ place_of seen.survey.own }
-{
-    let survey = seen.survey;
-    let own = survey.own;
-    place_of(own)
-}
-
 // The place of the slot that is written: the lowest that isn't live for Allocate, the caller's own for every other request.
 pub fn place_for(seen: Seen) -> usize
     ensures { result ≡ place_in seen }
@@ -163,7 +142,7 @@ fn client_call(call: FromClient) -> ClientCall
     }
 }
 
-// ---- The answers. `own` is the slot that was found, or a fresh one where none was.
+// ---- The answers. `own` is the slot that was found.
 
 // An Allocate, with what it asks of the whole table.
 fn answer_allocate(
@@ -171,21 +150,19 @@ fn answer_allocate(
     reply: &mut [u8],
     call: FromClient,
     survey: Survey,
-    own: Slot,
+    own: Option<&Slot>,
 ) -> Answer
     requires { ReadyClient call datagram.now reply.old × (20 ≤ length datagram.now) }
-    ensures { Answering (Client call) AskedIs.Allocate (λ slots. (on_asked false call datagram.now slots AskedIs.Allocate).change) survey own reply.old reply.new result }
+    ensures { AnsweringSeen (Client call) AskedIs.Allocate (λ slots. (on_asked false call datagram.now slots AskedIs.Allocate).change) survey own.entry reply.old reply.new result }
 {
-    let found = survey.own;
     let free = survey.free;
     let ports = survey.ports;
-    let asked = allocation_rules::Room {
-        own: found.is_some(),
+    let capacity = Capacity {
         held: survey.held,
         free: free.is_some(),
         port: port_for(ports, call.start),
     };
-    allocate(datagram, reply, client_call(call), asked, own)
+    allocate(datagram, reply, client_call(call), capacity, own)
 }
 
 // Nothing passes, and no slot is written.
@@ -199,49 +176,27 @@ fn answer_dropped() -> Answer
 }
 
 // A client's data, which passes or is dropped. A request is none.
-fn pass_client(
-    datagram: &[u8],
-    call: FromClient,
-    asked: Asked,
-    survey: Survey,
-    own: Slot,
-) -> Outcome
+fn pass_client(datagram: &[u8], call: FromClient, asked: Asked, own: Option<&Slot>) -> Outcome
     requires { (call.user ≤ 32) × (asked ≡ asked_by datagram.now) }
-    ensures { is_data asked ≡ true → ((denied : Bool) (reply : List ℕ) → Answering (Client call) asked (λ slots. (on_asked denied call datagram.now slots asked).change) survey own reply reply (unwritten result)) }
+    ensures { is_data asked ≡ true → ((denied : Bool) (reply : List ℕ) → Answering (Client call) asked (λ slots. (on_asked denied call datagram.now slots asked).change) own.entry reply reply (unwritten result)) }
 {
-    let found = survey.own;
     match asked {
         Asked::Allocate => Outcome::DroppedOther,
         Asked::Refresh => Outcome::DroppedOther,
         Asked::CreatePermission => Outcome::DroppedOther,
         Asked::ChannelBind => Outcome::DroppedOther,
-        Asked::Send => send(datagram, client_call(call), found.is_some(), own),
-        Asked::ChannelData => send_channel_data(datagram, client_call(call), found.is_some(), own),
+        Asked::Send => send(datagram, client_call(call), own),
+        Asked::ChannelData => send_channel_data(datagram, client_call(call), own),
         Asked::Nothing => Outcome::DroppedOther,
     }
 }
 
 // A peer's data.
-fn pass_peer(
-    datagram: &[u8],
-    reply: &mut [u8],
-    call: FromPeer,
-    survey: Survey,
-    own: Slot,
-) -> Outcome
+fn pass_peer(datagram: &[u8], reply: &mut [u8], call: FromPeer, own: Option<&Slot>) -> Outcome
     requires { ReadyPeer call datagram.now reply.old }
-    ensures { Answering (Peer call) AskedIs.Nothing (λ slots. (decided false (Peer call) datagram.now slots).change) survey own reply.old reply.new (unwritten result) }
+    ensures { Answering (Peer call) AskedIs.Nothing (λ slots. (decided false (Peer call) datagram.now slots).change) own.entry reply.old reply.new (unwritten result) }
 {
-    let found = survey.own;
-    relay_from_peer(
-        datagram,
-        reply,
-        call.time,
-        call.source,
-        call.id,
-        found.is_some(),
-        own,
-    )
+    relay_from_peer(datagram, reply, call.time, call.source, call.id, own)
 }
 
 // Whether it is data, by which no slot is written.
@@ -255,15 +210,19 @@ pub fn is_data(seen: Seen) -> bool
 }
 
 // What data does: a slot is neither written nor passed on.
-pub fn pass_data(datagram: &[u8], reply: &mut [u8], call: Call, seen: Seen, own: Slot) -> Outcome
+pub fn pass_data(
+    datagram: &[u8],
+    reply: &mut [u8],
+    call: Call,
+    seen: Seen,
+    own: Option<&Slot>,
+) -> Outcome
     requires { (Ready call datagram.now reply.old × (seen.asked ≡ asked_for call datagram.now)) × (is_data seen.asked ≡ true) }
-    ensures { Answering call seen.asked (λ slots. (decided seen.denied call datagram.now slots).change) seen.survey own reply.old reply.new (unwritten result) }
+    ensures { Answering call seen.asked (λ slots. (decided seen.denied call datagram.now slots).change) own.entry reply.old reply.new (unwritten result) }
 {
-    let asked = seen.asked;
-    let survey = seen.survey;
     match call {
-        Call::Client(c) => pass_client(datagram, c, asked, survey, own),
-        Call::Peer(p) => pass_peer(datagram, reply, p, survey, own),
+        Call::Client(c) => pass_client(datagram, c, seen.asked, own),
+        Call::Peer(p) => pass_peer(datagram, reply, p, own),
     }
 }
 
@@ -275,35 +234,18 @@ fn answer_client(
     asked: Asked,
     denied: bool,
     survey: Survey,
-    own: Slot,
+    own: Option<&Slot>,
 ) -> Answer
-    requires { (ReadyClient call datagram.now reply.old × (asked ≡ asked_by datagram.now)) × (is_data asked ≡ true → has survey.own ≡ false) }
-    ensures { Answering (Client call) asked (λ slots. (on_asked denied call datagram.now slots asked).change) survey own reply.old reply.new result }
+    requires { (ReadyClient call datagram.now reply.old × (asked ≡ asked_by datagram.now)) × (is_data asked ≡ true → is_some own ≡ false) }
+    ensures { AnsweringSeen (Client call) asked (λ slots. (on_asked denied call datagram.now slots asked).change) survey own.entry reply.old reply.new result }
 {
-    let found = survey.own;
     match asked {
         Asked::Allocate => answer_allocate(datagram, reply, call, survey, own),
-        Asked::Refresh => refresh(datagram, reply, client_call(call), found.is_some(), own),
+        Asked::Refresh => refresh(datagram, reply, client_call(call), own),
         Asked::CreatePermission => {
-            create_permission(
-                datagram,
-                reply,
-                client_call(call),
-                denied,
-                found.is_some(),
-                own,
-            )
+            create_permission(datagram, reply, client_call(call), denied, own)
         }
-        Asked::ChannelBind => {
-            channel_bind(
-                datagram,
-                reply,
-                client_call(call),
-                denied,
-                found.is_some(),
-                own,
-            )
-        }
+        Asked::ChannelBind => channel_bind(datagram, reply, client_call(call), denied, own),
         Asked::Send => answer_dropped(),
         Asked::ChannelData => answer_dropped(),
         Asked::Nothing => answer_dropped(),
@@ -311,9 +253,15 @@ fn answer_client(
 }
 
 // What a call does that is not refused: a request, or data for which no slot was found.
-pub fn answer_call(datagram: &[u8], reply: &mut [u8], call: Call, seen: Seen, own: Slot) -> Answer
-    requires { (Ready call datagram.now reply.old × (seen.asked ≡ asked_for call datagram.now)) × (is_data seen.asked ≡ true → has seen.survey.own ≡ false) }
-    ensures { Answering call seen.asked (λ slots. (decided seen.denied call datagram.now slots).change) seen.survey own reply.old reply.new result }
+pub fn answer_call(
+    datagram: &[u8],
+    reply: &mut [u8],
+    call: Call,
+    seen: Seen,
+    own: Option<&Slot>,
+) -> Answer
+    requires { (Ready call datagram.now reply.old × (seen.asked ≡ asked_for call datagram.now)) × (is_data seen.asked ≡ true → is_some own ≡ false) }
+    ensures { AnsweringSeen call seen.asked (λ slots. (decided seen.denied call datagram.now slots).change) seen.survey own.entry reply.old reply.new result }
 {
     let asked = seen.asked;
     let survey = seen.survey;
@@ -321,12 +269,4 @@ pub fn answer_call(datagram: &[u8], reply: &mut [u8], call: Call, seen: Seen, ow
         Call::Client(c) => answer_client(datagram, reply, c, asked, seen.denied, survey, own),
         Call::Peer(_) => answer_dropped(),
     }
-}
-
-// The same where no slot was found.
-pub fn answer_unfound(datagram: &[u8], reply: &mut [u8], call: Call, seen: Seen) -> Answer
-    requires { (Ready call datagram.now reply.old × (seen.asked ≡ asked_for call datagram.now)) × (has seen.survey.own ≡ false) }
-    ensures { Answering call seen.asked (λ slots. (decided seen.denied call datagram.now slots).change) seen.survey fresh_slot reply.old reply.new result }
-{
-    answer_call(datagram, reply, call, seen, fresh_slot())
 }

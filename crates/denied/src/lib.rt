@@ -31,6 +31,7 @@ pub fn read_denied(nodes: &mut [u16; 1536], text: &[u8]) -> Result<usize, Refusa
 {
     let mut tree = empty_tree();
     let mut start: usize = 0;
+    // `split` would give an empty last piece, which is no line.
     while start < text.len() {
         let end = start + find(&text[start..], NEWLINE);
         tree = with_line(tree, &text[start..end])?;

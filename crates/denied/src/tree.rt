@@ -4,8 +4,8 @@ ghost use Rattle.std.specs.Prelude.{◌≡◌, ◌<◌, ◌≤◌};
 ghost use Rattle.denied.specs.Tree.{bit_of, child_of, is_listed, is_child, denied_below, denied, none_denied, empty_tree, with_prefix};
 
 use crate::prefixes::Prefix;
-use choice::both;
 
+// An array with a count: no heap, fixed memory.
 #[derive(Clone, Copy)]
 pub struct Tree {
     pub nodes: [u16; 1536],
@@ -49,10 +49,11 @@ fn is_listed(nodes: &[u16; 1536], node: usize) -> bool
 }
 
 // A child past the nodes is no child.
+#[tactic(auto, unfolding(choice::specs::Choice::both))]
 fn is_child(child: usize) -> bool
     ensures { result ≡ is_child child }
 {
-    both(0 < child, child < 512)
+    0 < child && child < 512
 }
 
 // ---- The lookup

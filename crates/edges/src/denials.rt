@@ -1,26 +1,24 @@
 // Denied prefixes: a text of them that is read, trees that are made up, and whether an address is denied.
 use crate::calling::write_name;
 use crate::fields::{address, bytes, number, number_u16};
-use crate::printing::{write, write_byte, write_lettered, write_number};
+use crate::printing::{write, write_byte};
 use address::Address;
 use denied::tree::is_denied;
 use refusal::Refusal;
 use relay::Held;
 use state::{Bookkeeping, deny};
 
-fn with_bookkeeping(held: Held, bookkeeping: Bookkeeping) -> Held {
-    let mut made = held;
-    made.bookkeeping = bookkeeping;
-    made
-}
-
 // The number of the refusal, or how many nodes the tree has.
 fn write_reading(rt: &impl Print, line: &[u8], read: Result<usize, Refusal>) {
     write_name(rt, line);
     write_byte(rt, b' ');
     match read {
-        Ok(count) => write_number(rt, b"nodes ", count as u64),
-        Err(refusal) => write_lettered(rt, b'R', refusal.number() as u64),
+        Ok(count) => {
+            let _ = print!(rt; "nodes {count}");
+        }
+        Err(refusal) => {
+            let _ = print!(rt; "R {}", refusal.number());
+        }
     }
     write_byte(rt, b'\n');
 }
@@ -33,7 +31,10 @@ fn read_first(rt: &impl Print, held: Held, line: &[u8], bytes: &[u8], size: usiz
     let mut bookkeeping = held.bookkeeping;
     let read = deny(&mut bookkeeping, &bytes[..size]);
     write_reading(rt, line, read);
-    with_bookkeeping(held, bookkeeping)
+    Held {
+        bookkeeping,
+        ..held
+    }
 }
 
 // `D` name, bytes: a text is read.
@@ -45,8 +46,7 @@ pub(crate) fn read(rt: &impl Print, held: Held, line: &[u8]) -> Held {
 
 // `G` place, number: a number put into the tree, three for each node; from place 1,536 on, in every place.
 pub(crate) fn with_number(held: Held, line: &[u8]) -> Held {
-    let kept = held.bookkeeping;
-    let mut denied = kept.denied;
+    let mut denied = held.bookkeeping.denied;
     let place = number(line, 1) as usize;
     let value = number_u16(line, 2);
     if place < 1536 {
@@ -54,13 +54,14 @@ pub(crate) fn with_number(held: Held, line: &[u8]) -> Held {
     } else {
         denied = [value; 1536];
     }
-    with_bookkeeping(
-        held,
-        Bookkeeping {
-            clock: kept.clock,
-            denied,
-        },
-    )
+    let bookkeeping = Bookkeeping {
+        denied,
+        ..held.bookkeeping
+    };
+    Held {
+        bookkeeping,
+        ..held
+    }
 }
 
 fn write_answer(rt: &impl Print, held: Held, a: u32) {

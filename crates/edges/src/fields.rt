@@ -2,6 +2,7 @@
 ghost use Rattle.std.specs.Prelude.{◌≤◌, length};
 
 use address::{Address, TransactionId, TransportAddress};
+use text::scan::find;
 use text::{read_decimal, read_hex_bytes, read_hex_word};
 
 pub const TAB: u8 = 9;
@@ -13,12 +14,7 @@ pub(crate) fn stop(text: &[u8], from: usize, mark: u8) -> usize
     requires { from ≤ length text.now }
     ensures { (from ≤ result) × (result ≤ length text.now) }
 {
-    for i in from..text.len() {
-        if text[i] == mark {
-            return i;
-        }
-    }
-    text.len()
+    from + find(&text[from..], mark)
 }
 
 // The place after the next tab, or the end.
@@ -58,6 +54,7 @@ pub(crate) fn number(line: &[u8], k: usize) -> u64 {
     read_decimal(&line[from..to]).unwrap_or(0)
 }
 
+// One line each: `as` takes no number that does not fit, and the remainder is by the size of the type.
 pub(crate) fn number_u32(line: &[u8], k: usize) -> u32 {
     (number(line, k) % 4294967296) as u32
 }

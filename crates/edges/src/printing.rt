@@ -15,17 +15,6 @@ pub(crate) fn write_byte(rt: &impl Print, b: u8) {
     write(rt, &[b]);
 }
 
-pub(crate) fn write_number(rt: &impl Print, text: &[u8], n: u64) {
-    write(rt, text);
-    let _ = print!(rt; "{n}");
-}
-
-// A letter, a blank and the number that belongs to it.
-pub(crate) fn write_lettered(rt: &impl Print, letter: u8, n: u64) {
-    write_byte(rt, letter);
-    let _ = print!(rt; " {n}");
-}
-
 // Bytes in hex.
 #[derive(Clone, Copy)]
 pub(crate) struct Hex<'a>(pub &'a [u8]);
@@ -122,7 +111,7 @@ pub(crate) fn write_message(rt: &impl Print, s: &[u8]) {
             ..
         } => write_allocated(rt, port, seconds, client),
         Message::RefreshSuccess { seconds, .. } => {
-            write_number(rt, b"Refresh success, seconds ", seconds as u64)
+            let _ = print!(rt; "Refresh success, seconds {seconds}");
         }
         Message::BareSuccess { method, .. } => {
             write_method(rt, method);
@@ -159,7 +148,9 @@ pub(crate) fn write_outcome<'a>(
     reply: &'a [u8],
 ) {
     match outcome {
-        Outcome::Refused(refusal) => write_lettered(rt, b'R', refusal.number() as u64),
+        Outcome::Refused(refusal) => {
+            let _ = print!(rt; "R {}", refusal.number());
+        }
         Outcome::DroppedLapsed => write(rt, b"D lapsed"),
         Outcome::DroppedNever => write(rt, b"D never"),
         Outcome::DroppedOther => write(rt, b"D other"),

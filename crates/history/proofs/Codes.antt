@@ -17,11 +17,10 @@ use Rattle.stun.specs.Kinds.{attribute_kinds, attribute_kind_of, unknown_kind}
 use Rattle.stun.specs.Message.{attributes, is_unknown, unknown_numbers, unknown_types}
 use Rattle.slot.specs.declared.Slot.{Slot}
 use Rattle.rules.specs.declared.requests.ClientCall.{ClientCall}
-use Rattle.allocation_rules.specs.declared.Room.{Room}
 use Rattle.rules.specs.Change.{check}
 use Rattle.rules.specs.Values.{any_unknown}
 use Rattle.rules.specs.Requests.{request_code, own_code}
-use Rattle.allocation_rules.specs.Allocations.{allocate_code, refresh_code}
+use Rattle.allocation_rules.specs.Allocations.{Room, allocate_code, refresh_code}
 use Rattle.permission_rules.specs.Permissions.{create_permission_code, channel_bind_code}
 use Rattle.client_reader.specs.Fields.{TypesInRange}
 use Rattle.history.proofs.Tests.{clash}

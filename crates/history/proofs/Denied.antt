@@ -28,8 +28,7 @@ use Rattle.table.specs.Table.{slot_at}
 use Rattle.rules.specs.declared.answer.Outcome.TheVariants.{ToClient, ToPeer}
 use Rattle.rules.specs.Change.{Out, dropped, to_client, to_peer, Change, keep, write, out_of, respond}
 use Rattle.rules.proofs.Laws.{kept_not_written}
-use Rattle.allocation_rules.specs.declared.Room.{Room}
-use Rattle.allocation_rules.specs.Allocations.{repeats, allocated, allocate, renewed, refresh}
+use Rattle.allocation_rules.specs.Allocations.{Room, repeats, allocated, allocate, renewed, refresh}
 use Rattle.permission_rules.specs.Permissions.{create_permission, bound, channel_bind}
 use Rattle.permission_rules.specs.Denials.{denied_address, denied_peer}
 use Rattle.data_rules.specs.Data.{permission_of, send, send_channel_data, relay_from_peer}

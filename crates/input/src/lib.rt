@@ -21,6 +21,7 @@ pub fn read_full<R: Read>(reader: &mut R, input: &mut [u8]) -> usize
     ensures { result ≤ length input.old }
 {
     let mut done = 0;
+    // How far a read gets is the reader's to say: there is nothing to iterate over.
     while done < input.len() {
         let got = read_behind(reader, input, done);
         if got == 0 {

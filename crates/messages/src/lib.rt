@@ -59,7 +59,7 @@ fn attribute_size(len: usize) -> usize
     4 + len + padding(len)
 }
 
-// The length of an address attribute.
+// The length of an address attribute, in bytes; `text::address_size` is of digits, so that the two share no number.
 fn address_size(address: Address) -> usize
     ensures { result ≡ address_size address }
 {

@@ -1,12 +1,11 @@
 // ChannelBind: its checks, and the permission and the channel that it makes.
-ghost use Rattle.std.specs.Prelude.{◌≡◌, ◌≤◌, ◌^◌, length};
+ghost use Rattle.std.specs.Prelude.{◌≡◌, ◌≤◌, ◌^◌, length, is_some, IfOk};
 ghost use Rattle.stun.specs.Values.{peer_or_nobody, first_peer};
 ghost use Rattle.rules.specs.Values.{channel_number, number_given};
-ghost use Rattle.permission_rules.specs.Permissions.{channel_bind_code, channel_bind};
+ghost use Rattle.permission_rules.specs.Permissions.{bound, channel_bind_code, channel_bind};
 ghost use Rattle.permission_rules.specs.Inner.{bound_where_room};
-ghost use Rattle.std.specs.Option.{is_some};
 ghost use Rattle.rules.specs.Codes.{code_of};
-ghost use Rattle.rules.specs.Inner.{Answers};
+ghost use Rattle.rules.specs.Inner.{Answers, slot_or_fresh};
 
 use address::TransportAddress;
 use messages::put_bare_success;
@@ -22,32 +21,26 @@ use stun::peers::first_peer;
 use stun::values::{NOBODY, channel_number, transaction_id};
 
 // The slot with the permission and the channel, where there is room for both.
-fn bind_both(time: u64, number: u16, peer: TransportAddress, slot: Slot) -> Option<Slot>
+fn bind_both(time: u64, number: u16, peer: TransportAddress, slot: &Slot) -> Option<Slot>
     requires { time ≤ 2 ^ 40 }
-    ensures { result ≡ bound_where_room time number peer slot }
+    ensures { result ≡ bound_where_room time number peer slot.now }
 {
-    let permitted = permit(time, peer.address, slot)?;
+    let permitted = permit(time, peer.address, *slot)?;
     bind(time, number, peer, permitted)
 }
 
-// Number and value are what the message carries, and room says whether there is room for what they would make.
-#[tactic(auto, using(crate::proofs::Laws::full_code), unfolding(crate::specs::Permissions::channel_bind_code, rules::specs::Change::check))]
-fn check_channel_bind(
-    s: &[u8],
-    call: ClientCall,
-    denied: bool,
-    own: bool,
-    slot: Slot,
-    number: u16,
-    value: Option<TransportAddress>,
-    room: bool,
-) -> Result<(), ErrorCode>
-    requires { (20 ≤ length s.now) × (number ≡ number_given (channel_number s.now)) × (value ≡ first_peer s.now) × (room ≡ is_some (bound_where_room call.time number (peer_or_nobody value) slot)) }
-    ensures { code_of result ≡ channel_bind_code call s.now denied own slot }
+// The checks of a ChannelBind, and the slot with the permission and the channel that it makes.
+#[tactic(auto, using(crate::proofs::Laws::bound_code, crate::proofs::Laws::bound_slot), unfolding(crate::specs::Permissions::channel_bind_code, rules::specs::Change::check))]
+fn bound(s: &[u8], call: ClientCall, denied: bool, own: Option<&Slot>) -> Result<Slot, ErrorCode>
+    requires { (20 ≤ length s.now) × (call.time ≤ 2 ^ 40) }
+    ensures code { code_of result ≡ channel_bind_code call s.now denied (is_some own.entry) (slot_or_fresh own.entry) }
+    ensures slot { IfOk result (λ slot. slot ≡ bound call.time (number_given (channel_number s.now)) (peer_or_nobody (first_peer s.now)) (slot_or_fresh own.entry)) }
 {
+    let number = number_given(channel_number(s)) as u16;
+    let value = first_peer(s);
     let peer = value.unwrap_or(NOBODY);
+    let slot = check_own(s, call, own)?;
     let channels = slot.channels;
-    check_own(s, call, own, slot)?;
     check(missing(channel_number(s)), ErrorCode::BadRequest)?;
     check(malformed_peer(value), ErrorCode::BadRequest)?;
     check(!is_channel_number(number), ErrorCode::BadRequest)?;
@@ -61,38 +54,25 @@ fn check_channel_bind(
         peer_taken(call.time, number, peer, channels),
         ErrorCode::BadRequest,
     )?;
-    check(!room, ErrorCode::InsufficientCapacity)
+    bind_both(call.time, number, peer, slot).ok_or(ErrorCode::InsufficientCapacity)
 }
 
+// A ChannelBind. `own` is the live slot of the 5-tuple.
 pub fn channel_bind(
     s: &[u8],
     reply: &mut [u8],
     call: ClientCall,
     denied: bool,
-    own: bool,
-    was: Slot,
+    own: Option<&Slot>,
 ) -> Answer
     requires { (20 ≤ length s.now) × (1536 ≤ length reply.old) × (call.time ≤ 2 ^ 40) }
-    ensures { Answers (channel_bind call s.now denied own was) reply.old reply.new result }
+    ensures { Answers (channel_bind call s.now denied (is_some own.entry) (slot_or_fresh own.entry)) reply.old reply.new result }
 {
-    let number = number_given(channel_number(s)) as u16;
-    let value = first_peer(s);
-    let peer = value.unwrap_or(NOBODY);
-    let made = bind_both(call.time, number, peer, was);
     let five_tuple = call.five_tuple;
-    if let Err(code) = check_channel_bind(
-        s,
-        call,
-        denied,
-        own,
-        was,
-        number,
-        value,
-        made.is_some(),
-    ) {
-        return respond_error(s, reply, five_tuple, Method::ChannelBind, code);
-    }
-    let slot = made.unwrap_or(was);
+    let slot = match bound(s, call, denied, own) {
+        Ok(slot) => slot,
+        Err(code) => return respond_error(s, reply, five_tuple, Method::ChannelBind, code),
+    };
     let len = put_bare_success(reply, Method::ChannelBind, transaction_id(s));
     let outcome = Outcome::ToClient { five_tuple, len };
     Answer {

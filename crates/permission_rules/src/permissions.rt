@@ -1,8 +1,8 @@
 // CreatePermission: its checks, and the fold over its peer addresses.
-ghost use Rattle.std.specs.Prelude.{◌≡◌, ◌≤◌, ◌^◌, length};
+ghost use Rattle.std.specs.Prelude.{◌≡◌, ◌≤◌, ◌^◌, length, is_some, IfOk};
 ghost use Rattle.stun.specs.Values.{peers};
 ghost use Rattle.rules.specs.Codes.{code_of};
-ghost use Rattle.rules.specs.Inner.{Answers};
+ghost use Rattle.rules.specs.Inner.{Answers, slot_or_fresh};
 ghost use Rattle.slot.specs.Inner.{made};
 ghost use Rattle.choice.specs.Choice.{any};
 ghost use Rattle.rules.specs.Values.{none, malformed_peer, ipv6_peer};
@@ -36,11 +36,11 @@ fn permit_peer(time: u64, value: Option<TransportAddress>, slot: Slot) -> Option
 }
 
 // Each peer address is given its permission in order; none where one finds no room.
-fn permit_all(s: &[u8], time: u64, slot: Slot) -> Option<Slot>
+fn permit_all(s: &[u8], time: u64, slot: &Slot) -> Option<Slot>
     requires { (20 ≤ length s.now) × (time ≤ 2 ^ 40) }
-    ensures { result ≡ made (permit_all time (peers s.now) slot slot) }
+    ensures { result ≡ made (permit_all time (peers s.now) slot.now slot.now) }
 {
-    let mut done = slot;
+    let mut done = *slot;
     for value in Peers::of(s) {
         done = permit_peer(time, value, done)?;
     }
@@ -61,44 +61,42 @@ fn any_ipv6(s: &[u8]) -> bool
     Peers::of(s).any(ipv6_peer)
 }
 
-// Whether there was room for each address comes as an argument.
-#[tactic(auto, unfolding(crate::specs::Permissions::create_permission_code, rules::specs::Change::check))]
-fn check_create_permission(
+// The checks of a CreatePermission, and the slot with the permissions that it makes.
+#[tactic(auto, using(crate::proofs::Laws::room_code, crate::proofs::Laws::room_slot), unfolding(crate::specs::Permissions::create_permission_code, rules::specs::Change::check))]
+fn permitted(
     s: &[u8],
     call: ClientCall,
     denied: bool,
-    own: bool,
-    slot: Slot,
-    room: bool,
-) -> Result<(), ErrorCode>
-    requires { (20 ≤ length s.now) × (room ≡ (permit_all call.time (peers s.now) slot slot).ok) }
-    ensures { code_of result ≡ create_permission_code call s.now denied own slot }
+    own: Option<&Slot>,
+) -> Result<Slot, ErrorCode>
+    requires { (20 ≤ length s.now) × (call.time ≤ 2 ^ 40) }
+    ensures code { code_of result ≡ create_permission_code call s.now denied (is_some own.entry) (slot_or_fresh own.entry) }
+    ensures slot { IfOk result (λ slot. slot ≡ (permit_all call.time (peers s.now) (slot_or_fresh own.entry) (slot_or_fresh own.entry)).slot) }
 {
-    check_own(s, call, own, slot)?;
+    let slot = check_own(s, call, own)?;
     check(no_peer(s), ErrorCode::BadRequest)?;
     check(any_malformed(s), ErrorCode::BadRequest)?;
     check(any_ipv6(s), ErrorCode::PeerAddressFamilyMismatch)?;
     check(denied, ErrorCode::Forbidden)?;
-    check(!room, ErrorCode::InsufficientCapacity)
+    permit_all(s, call.time, slot).ok_or(ErrorCode::InsufficientCapacity)
 }
 
+// A CreatePermission. `own` is the live slot of the 5-tuple.
 pub fn create_permission(
     s: &[u8],
     reply: &mut [u8],
     call: ClientCall,
     denied: bool,
-    own: bool,
-    was: Slot,
+    own: Option<&Slot>,
 ) -> Answer
     requires { (20 ≤ length s.now) × (1536 ≤ length reply.old) × (call.time ≤ 2 ^ 40) }
-    ensures { Answers (create_permission call s.now denied own was) reply.old reply.new result }
+    ensures { Answers (create_permission call s.now denied (is_some own.entry) (slot_or_fresh own.entry)) reply.old reply.new result }
 {
-    let permitted = permit_all(s, call.time, was);
     let five_tuple = call.five_tuple;
-    if let Err(code) = check_create_permission(s, call, denied, own, was, permitted.is_some()) {
-        return respond_error(s, reply, five_tuple, Method::CreatePermission, code);
-    }
-    let slot = permitted.unwrap_or(was);
+    let slot = match permitted(s, call, denied, own) {
+        Ok(slot) => slot,
+        Err(code) => return respond_error(s, reply, five_tuple, Method::CreatePermission, code),
+    };
     let len = put_bare_success(reply, Method::CreatePermission, transaction_id(s));
     let outcome = Outcome::ToClient { five_tuple, len };
     Answer {

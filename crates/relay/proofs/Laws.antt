@@ -36,7 +36,8 @@ use Rattle.state.specs.Outcomes.{Does}
 use Rattle.interface.specs.Refusals.{time_of, lengths, refusal}
 use Rattle.decisions.specs.Decisions.{names_denied, on_asked, decided}
 use Rattle.state.specs.Step.{done, accepted}
-use Rattle.decisions.specs.Inner.{Ready, asked_for, wanted_by, saw, place_for, place_in, unwritten}
+use Rattle.decisions.specs.Inner.{Ready, asked_for, wanted_by, saw, place_for, place_in, unwritten, Lent, Owned}
+use Rattle.std.specs.Borrow.{Bor}
 use Rattle.relay.specs.Inner.{Saw, LookedFor, WroteBack, Answered}
 use Rattle.decisions.proofs.Laws.{decided-writes}
 use Rattle.state.proofs.Laws.{kept_done, written-done, does}
@@ -145,6 +146,10 @@ module _ (slots : List Slot) (denied : Bool) (call : Call) (s : List ℕ) (asked
 -- the slot that was found
 pub seen_within : (slots : List Slot) {call : Call} {s : List ℕ} {seen : Seen} → Saw slots call s seen → Within seen.survey.own (length slots)
 seen_within slots w = own_within slots w.looked
+
+pub owned : (slots : List Slot) {call : Call} {s : List ℕ} {seen : Seen} {own : Option (Bor Slot)} → Saw slots call s seen → Lent slots seen.survey.own own
+    → Owned slots (wanted_by call seen.asked) own
+owned slots {own = own} w l = subst (λ (place : Option ℕ). Lent slots place own) w.looked.own l
 
 -- the slot that is written lies in the table, and it is written back
 module _ (slots : List Slot) (call : Call) (s reply : List ℕ) (seen : Seen) {reply' : List ℕ} {answer : Answer} (sees : Saw slots call s seen)

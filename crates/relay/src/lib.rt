@@ -1,17 +1,17 @@
 // The relay's public entries, over the sixty-four slots lent as a slice of records, what the relay keeps beside them as one lent struct,
-// and the datagram and the reply as lent bytes. Every decision is by value, in the crates below; here the slots are looked over, one is
-// read, and it is written back where it changed.
+// and the datagram and the reply as lent bytes. Every decision is made in the crates below; here the slots are looked over, the one that
+// was found is lent, and it is written back where it changed.
 #![tactic(auto)]
 
 ghost use Rattle.std.specs.Prelude.{◌≡◌, ◌<◌, length, IsSome};
 ghost use Rattle.state.specs.State.{state};
 ghost use Rattle.state.specs.Step.{Stepped};
-ghost use Rattle.decisions.specs.Inner.{Ready, UserFits, asked_for, place_in};
+ghost use Rattle.table.specs.Inner.{Within};
+ghost use Rattle.decisions.specs.Inner.{Ready, UserFits, asked_for, place_in, Lent};
 ghost use Rattle.relay.specs.Inner.{LookedFor, WroteBack, Answered, DoesAccepted};
 
 use decisions::{
-    Asking, Seen, answer_call, answer_unfound, asking_of, finds_none, is_data, own_place,
-    pass_data, place_for, wanted_by, with_survey,
+    Asking, Seen, answer_call, asking_of, is_data, pass_data, place_for, wanted_by, with_survey,
 };
 use interface::incoming::Call;
 use interface::refusals::{Lengths, refusal};
@@ -40,7 +40,18 @@ fn write_found(slots: &mut [Slot], seen: Seen, answer: Answer) -> Outcome
     answer.outcome
 }
 
-// What becomes of what a call asks. A slot that was found is read; data writes none.
+// The slot that was found, lent where it lies.
+fn found(slots: &[Slot], seen: Seen) -> Option<&Slot>
+    requires { Within seen.survey.own (length slots.now) }
+    ensures { Lent slots.now seen.survey.own result }
+{
+    match seen.survey.own {
+        Some(k) => Some(slot_at(slots, k)),
+        None => None,
+    }
+}
+
+// What becomes of what a call asks, by the slot that was found. Data writes none.
 fn answer_asked(
     slots: &mut [Slot],
     call: Call,
@@ -52,11 +63,7 @@ fn answer_asked(
     ensures { Answered asking.denied slots.old call datagram.now result slots.new reply.old reply.new }
 {
     let seen = look_for(slots, call, asking);
-    if finds_none(seen) {
-        let answer = answer_unfound(datagram, reply, call, seen);
-        return write_found(slots, seen, answer);
-    }
-    let own = slot_at(slots, own_place(seen));
+    let own = found(slots, seen);
     if is_data(seen) {
         return pass_data(datagram, reply, call, seen, own);
     }

@@ -96,7 +96,7 @@ other_number AllocationQuotaReached n = refl
 other_number InsufficientCapacity n = refl
 
 -- ---- The answer to a request, by what its checks gave
-module _ (fiveTuple : FiveTuple) (method : Method) (s : List ℕ) (accepted : Change) {n : ℕ} {before after : List ℕ} {answer : Answer} {checked : Result Unit ErrorCode}
+module _ (fiveTuple : FiveTuple) (method : Method) (s : List ℕ) (accepted : Change) {n : ℕ} {before after : List ℕ} {answer : Answer} {A : Type 0} {checked : Result A ErrorCode}
     (q : code_of checked ≡ n) where
   pub answers_error : {code : ErrorCode} → checked ≡ Err code → Answers (keep (to_client fiveTuple (error_message method s (number code)))) before after answer
       → Answers (respond fiveTuple method s n accepted) before after answer
@@ -105,6 +105,6 @@ module _ (fiveTuple : FiveTuple) (method : Method) (s : List ℕ) (accepted : Ch
       let some : eqb (number code) 0 ≡ false = ne_eqb (number code) 0 (λ z. let h = (number_small code).0 in omega arith) in
       rw (sym q, e, some) w
 
-  pub answers_accepted : {passed : Unit} → checked ≡ Ok passed → Answers accepted before after answer → Answers (respond fiveTuple method s n accepted) before after answer
+  pub answers_accepted : {passed : A} → checked ≡ Ok passed → Answers accepted before after answer → Answers (respond fiveTuple method s n accepted) before after answer
   unfolding respond
   answers_accepted e w = rw (sym q, e) w

@@ -18,10 +18,10 @@ number AllocationQuotaReached = 486
 number InsufficientCapacity = 508
 
 -- the code that checks gave, or what later ones give
-abbrev pub code_or : Result Unit ErrorCode → ℕ → ℕ
+abbrev pub code_or : {A : Type 0} → Result A ErrorCode → ℕ → ℕ
 code_or (Ok passed) rest = rest
 code_or (Err code) rest = number code
 
 -- 0 is none
-abbrev pub code_of : Result Unit ErrorCode → ℕ
+abbrev pub code_of : {A : Type 0} → Result A ErrorCode → ℕ
 code_of result = code_or result 0

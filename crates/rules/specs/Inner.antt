@@ -1,6 +1,8 @@
 -- What the functions inside this crate and those of the crates above promise each other. No public statement rests on it.
 use Rattle.std.specs.Prelude.{ℕ, ◌≡◌, List, Option, Some, None}
+use Rattle.std.specs.Borrow.{Bor}
 use Rattle.slot.specs.declared.Slot.{Slot}
+use Rattle.slot.specs.Slot.{fresh_slot}
 use Rattle.rules.specs.declared.answer.Outcome.{Outcome}
 use Rattle.rules.specs.declared.answer.Answer.{Answer}
 use Rattle.rules.specs.Change.{Out, Change, keep, write, out_of, outcome_of, reply_after}
@@ -19,3 +21,8 @@ pub record Gives (out : Out) (before after : List ℕ) (outcome : Outcome) : Typ
 pub record Answers (change : Change) (before after : List ℕ) (answer : Answer) : Type 0 where
   pub gives : Gives (out_of change) before after answer.outcome
   pub written : answer.written ≡ slot_written change
+
+-- the slot that was found, or a fresh one where none was
+abbrev pub slot_or_fresh : Option (Bor Slot) → Slot
+slot_or_fresh (Some slot) = slot.now
+slot_or_fresh None = fresh_slot

@@ -1,6 +1,7 @@
 // What a client's call brings to the rules, and the checks that the requests share.
-ghost use Rattle.std.specs.Prelude.{◌≡◌, ℕ};
+ghost use Rattle.std.specs.Prelude.{◌≡◌, ℕ, is_some, IfOk};
 ghost use Rattle.rules.specs.Codes.{code_or};
+ghost use Rattle.rules.specs.Inner.{slot_or_fresh};
 ghost use Rattle.rules.specs.Requests.{request_code, own_code};
 
 use crate::codes::{ErrorCode, check};
@@ -27,13 +28,23 @@ pub fn check_request(s: &[u8], call: ClientCall) -> Result<(), ErrorCode>
     check(any_unknown(s), ErrorCode::UnknownAttribute)
 }
 
-// The checks of every request that needs a live allocation.
+// The checks of every request that needs a live allocation, and the slot of it. `own` is the live slot of the 5-tuple.
 #[tactic(auto, unfolding(crate::specs::Change::check, crate::specs::Requests::own_code))]
-pub fn check_own(s: &[u8], call: ClientCall, own: bool, slot: Slot) -> Result<(), ErrorCode>
-    ensures { (rest : ℕ) → code_or result rest ≡ own_code call s.now own slot rest }
+pub fn check_own<'a>(
+    s: &[u8],
+    call: ClientCall,
+    own: Option<&'a Slot>,
+) -> Result<&'a Slot, ErrorCode>
+    ensures code { (rest : ℕ) → code_or result rest ≡ own_code call s.now (is_some own.entry) (slot_or_fresh own.entry) rest }
+    ensures slot { IfOk result (λ slot. slot.now ≡ slot_or_fresh own.entry) }
 {
-    let allocation = slot.allocation;
     check_request(s, call)?;
-    check(!own, ErrorCode::AllocationMismatch)?;
-    check(allocation.user != call.user, ErrorCode::WrongCredentials)
+    let Some(slot) = own else {
+        return Err(ErrorCode::AllocationMismatch);
+    };
+    check(
+        slot.allocation.user != call.user,
+        ErrorCode::WrongCredentials,
+    )?;
+    Ok(slot)
 }

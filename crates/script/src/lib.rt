@@ -22,7 +22,7 @@ use state::Bookkeeping;
 
 pub mod answers;
 
-// The part of the input, or an empty one.
+// The part of the input, or an empty one. Its ends are numbers, since the promise of `run_line` is of `line_in start end input`.
 fn line_in(input: &[u8], start: usize, end: usize) -> &[u8]
     ensures { result.now ≡ line_in start end input.now }
 {

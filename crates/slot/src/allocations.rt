@@ -4,7 +4,6 @@ ghost use Rattle.slot.specs.Slot.{fresh_allocation, live_allocation, holds, hold
 
 use crate::{Allocation, fresh_transport_address, is_live};
 use address::FiveTuple;
-use choice::both;
 
 pub(crate) fn fresh_allocation() -> Allocation
     ensures { result ≡ fresh_allocation }
@@ -29,32 +28,27 @@ pub fn allocation_is_live(time: u64, allocation: Allocation) -> bool
     is_live(time, allocation.expiry)
 }
 
+// One line each: a function over the test would need a contract about every test.
 // Whether the allocation is live and has the 5-tuple.
+#[tactic(auto, using(address::proofs::Laws::eq_five_tuple), unfolding(crate::specs::Slot::holds, choice::specs::Choice::both))]
 pub fn holds(time: u64, five_tuple: FiveTuple, allocation: Allocation) -> bool
     ensures { result ≡ holds time five_tuple allocation }
 {
-    both(
-        allocation_is_live(time, allocation),
-        allocation.five_tuple == five_tuple,
-    )
+    allocation_is_live(time, allocation) && allocation.five_tuple == five_tuple
 }
 
 // Whether the allocation is live and has the relay port.
+#[tactic(auto, unfolding(crate::specs::Slot::holds_port, choice::specs::Choice::both))]
 pub fn holds_port(time: u64, port: u16, allocation: Allocation) -> bool
     ensures { result ≡ holds_port time port allocation }
 {
-    both(
-        allocation_is_live(time, allocation),
-        allocation.port == port,
-    )
+    allocation_is_live(time, allocation) && allocation.port == port
 }
 
 // Whether the allocation is live and is the user's.
+#[tactic(auto, unfolding(crate::specs::Slot::holds_user, choice::specs::Choice::both))]
 pub fn holds_user(time: u64, user: u8, allocation: Allocation) -> bool
     ensures { result ≡ holds_user time user allocation }
 {
-    both(
-        allocation_is_live(time, allocation),
-        allocation.user == user,
-    )
+    allocation_is_live(time, allocation) && allocation.user == user
 }

@@ -7,7 +7,6 @@ ghost use Rattle.slot.specs.Inner.{made};
 
 use crate::{Channel, Slot, fresh_transport_address, is_live};
 use address::TransportAddress;
-use choice::both;
 
 pub(crate) fn fresh_channel() -> Channel
     ensures { result ≡ fresh_channel }
@@ -20,35 +19,38 @@ pub(crate) fn fresh_channel() -> Channel
     }
 }
 
+#[tactic(auto, unfolding(crate::specs::Slot::is_channel_number, choice::specs::Choice::both))]
 pub fn is_channel_number(number: u16) -> bool
     ensures { result ≡ is_channel_number number }
 {
-    both(0x4000 <= number, number <= 0x4fff)
+    0x4000 <= number && number <= 0x4fff
 }
 
+#[tactic(auto, unfolding(crate::specs::Slot::live_channel, choice::specs::Choice::both))]
 pub fn channel_is_live(time: u64, channel: Channel) -> bool
     ensures { result ≡ live_channel time channel }
 {
-    both(
-        is_live(time, channel.expiry),
-        is_channel_number(channel.number),
-    )
+    is_live(time, channel.expiry) && is_channel_number(channel.number)
 }
 
+// One line each: a function over the test would need a contract about every test.
 // Whether the channel is live and has the number.
+#[tactic(auto, unfolding(crate::specs::Slot::numbered, choice::specs::Choice::both))]
 pub(crate) fn numbered(time: u64, number: u16, channel: Channel) -> bool
     ensures { result ≡ numbered time number channel }
 {
-    both(channel_is_live(time, channel), channel.number == number)
+    channel_is_live(time, channel) && channel.number == number
 }
 
 // Whether the channel is live and for the peer, address and port.
+#[tactic(auto, using(address::proofs::Laws::eq_transport_address), unfolding(crate::specs::Slot::leads_to, choice::specs::Choice::both))]
 pub(crate) fn leads_to(time: u64, peer: TransportAddress, channel: Channel) -> bool
     ensures { result ≡ leads_to time peer channel }
 {
-    both(channel_is_live(time, channel), channel.peer == peer)
+    channel_is_live(time, channel) && channel.peer == peer
 }
 
+// One line each: a function over the test would need a contract about every test.
 // The lowest live channel with the number.
 pub fn channel_by_number(time: u64, number: u16, channels: [Channel; 8]) -> Option<usize>
     ensures { result ≡ find (numbered time number) channels }
@@ -77,24 +79,28 @@ pub fn channel_at(found: Option<usize>, channels: [Channel; 8]) -> Channel
     }
 }
 
+// Two short functions: one over the search and the test would need a contract about every pair of them.
 // Whether the number is live for another peer.
+#[tactic(auto, using(crate::proofs::Laws::has_is, address::proofs::Laws::eq_transport_address), unfolding(crate::specs::Slot::number_taken, choice::specs::Choice::both))]
 pub fn number_taken(time: u64, number: u16, peer: TransportAddress, channels: [Channel; 8]) -> bool
     ensures { result ≡ number_taken time number peer channels }
 {
     let found = channel_by_number(time, number, channels);
     let channel = channel_at(found, channels);
-    both(found.is_some(), channel.peer != peer)
+    found.is_some() && channel.peer != peer
 }
 
 // Whether the peer is live on another number.
+#[tactic(auto, using(crate::proofs::Laws::has_is), unfolding(crate::specs::Slot::peer_taken, choice::specs::Choice::both))]
 pub fn peer_taken(time: u64, number: u16, peer: TransportAddress, channels: [Channel; 8]) -> bool
     ensures { result ≡ peer_taken time number peer channels }
 {
     let found = channel_by_peer(time, peer, channels);
     let channel = channel_at(found, channels);
-    both(found.is_some(), channel.number != number)
+    found.is_some() && channel.number != number
 }
 
+// One line each: a function over the test would need a contract about every test.
 // The lowest channel that isn't live.
 fn lowest_free(time: u64, channels: [Channel; 8]) -> Option<usize>
     ensures { result ≡ find (free_channel time) channels }
@@ -104,6 +110,7 @@ fn lowest_free(time: u64, channels: [Channel; 8]) -> Option<usize>
         .position(|channel| !channel_is_live(time, *channel))
 }
 
+// As for an IP address in `permission_entry`: one function over both searches would need a contract about every pair of them.
 // The entry for a number: its live channel, or else the lowest that isn't live.
 pub(crate) fn channel_entry(time: u64, number: u16, channels: [Channel; 8]) -> Option<usize>
     ensures { result ≡ channel_entry time number channels }

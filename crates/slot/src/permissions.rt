@@ -6,7 +6,6 @@ ghost use Rattle.slot.specs.Inner.{made};
 
 use crate::{Permission, Slot, is_live};
 use address::Address;
-use choice::both;
 
 // What the permissions say of an IP address: one is live for it, or one was, or there is none for it.
 #[derive(Clone, Copy)]
@@ -29,16 +28,16 @@ pub fn permission_is_live(time: u64, permission: Permission) -> bool
     is_live(time, permission.expiry)
 }
 
+// One line each: a function over the test would need a contract about every test.
 // Whether the permission is live and for the IP address, at any port.
+#[tactic(auto, using(address::proofs::Laws::eq_address), unfolding(crate::specs::Slot::permits, choice::specs::Choice::both))]
 pub(crate) fn permits(time: u64, address: Address, permission: Permission) -> bool
     ensures { result ≡ permits time address permission }
 {
-    both(
-        permission_is_live(time, permission),
-        permission.address == address,
-    )
+    permission_is_live(time, permission) && permission.address == address
 }
 
+// One line each: a function over the test would need a contract about every test.
 // The lowest live permission for the IP address.
 pub(crate) fn find_permission(
     time: u64,

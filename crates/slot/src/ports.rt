@@ -1,4 +1,4 @@
-// Which of the 128 relay ports from 49152 on are held, a bit for each: a survey of the slots is passed on in registers.
+// Which of the 128 relay ports from 49152 on are held, a bit for each. Two words and no array: a survey of the slots is passed on in registers.
 ghost use Rattle.std.specs.Prelude.{◌≡◌, true, false, ℕ, ◌<◌, get_or, set};
 ghost use Rattle.slot.specs.Inner.{bits_of, held_in};
 
@@ -49,11 +49,11 @@ pub fn with_port(ports: Ports, k: u64) -> Ports
     if k < 64 {
         return Ports {
             low: with_bit(ports.low, k),
-            high: ports.high,
+            ..ports
         };
     }
     Ports {
-        low: ports.low,
         high: with_bit(ports.high, k - 64),
+        ..ports
     }
 }

@@ -56,6 +56,20 @@ module _ {R : Type 0} (one : Attribute → R → R) (fin bad : R) where
   pub walk_by : (s : List ℕ) (at : ℕ) {o : Step} → step_at s at ≡ o → walk one fin bad s at ≡ after one fin bad o (λ x. walk one fin bad s x)
   walk_by s at e = walk_step s at ∙ ap (λ (o : Step). after one fin bad o (λ x. walk one fin bad s x)) e
 
+-- where no attribute that fits whole stands, each one fitted where the message ends there
+pub fit_over : (s : List ℕ) (at : ℕ) → ((a : Attribute) (x : ℕ) → step_at s at ≡ One a x → ⊥) → walk (λ (a : Attribute) (rest : Bool). rest) true false s at ≡ leb (length s) at
+unfolding step_at
+fit_over s at none = walk_step _ _ _ s at ∙ go (leb (length s) at) (leb (at + 4) (length s) && leb (next_at s at) (length s)) none
+  where
+    Over : Bool → Bool → Step
+    Over t u = pick t End (pick u (One (attribute_at s at) (next_at s at)) Short)
+
+    go : (t u : Bool) → ((a : Attribute) (x : ℕ) → Over t u ≡ One a x → ⊥)
+        → after (λ (a : Attribute) (rest : Bool). rest) true false (Over t u) (λ x. walk (λ (a : Attribute) (rest : Bool). rest) true false s x) ≡ t
+    go true u none = refl
+    go false false none = refl
+    go false true none = absurd (none _ _ refl)
+
 -- a step goes on; the attribute and its value lie within
 pub step_on : (s : List ℕ) (at : ℕ) {a : Attribute} {x : ℕ} → step_at s at ≡ One a x → (at < x) × (x ≤ length s) × (a.start + a.len ≤ length s)
 unfolding step_at next_at

@@ -3,8 +3,6 @@ use Rattle.std.specs.Prelude.{ℕ, ◌+◌, ◌-◌, ◌<◌, ◌≤◌, List, �
 use Rattle.stun.specs.declared.message.Attribute.{Attribute}
 use Rattle.stun.specs.declared.message.Attributes.{Attributes}
 use Rattle.stun.specs.declared.message.UnknownTypes.{UnknownTypes}
-use Rattle.stun.specs.declared.values.Width.{Width}
-use Rattle.stun.specs.declared.values.Width.TheVariants as Bytes
 use Rattle.stun.specs.declared.values.NumberValue.{NumberValue}
 use Rattle.stun.specs.declared.values.NumberValue.TheVariants.{Number, WrongLength, Absent}
 use Rattle.stun.specs.Message.{attributes_from, unknown_types}
@@ -20,12 +18,6 @@ attributes_left it = attributes_from it.message.now it.at
 -- the values of these attributes lie within the message
 abbrev pub Within : List ℕ → List Attribute → Type 0
 Within s l = All (λ (a : Attribute). a.start + a.len ≤ length s) l
-
--- how many bytes a number is in
-abbrev pub width_of : Width → ℕ
-width_of Bytes.One = 1
-width_of Bytes.Two = 2
-width_of Bytes.Four = 4
 
 -- the number that was read is below a bound
 abbrev pub Below : ℕ → NumberValue → Type 0

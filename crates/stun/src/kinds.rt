@@ -32,6 +32,7 @@ pub enum Method {
 }
 
 impl Method {
+    // Two tables of numbers: `success_type` and `error_type` share no row.
     pub fn success_type(self) -> u16
         ensures { result ≡ success_type self }
     {

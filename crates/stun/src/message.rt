@@ -14,7 +14,7 @@ pub struct Attribute {
     pub len: usize,
 }
 
-// What stands at a position among the attributes.
+// What stands at a position among the attributes: three states, which no Option and no Result has.
 #[derive(Clone, Copy)]
 pub enum Step {
     // An attribute that fits whole, and where the next one starts.
@@ -54,13 +54,10 @@ pub(crate) fn attributes_fit(s: &[u8]) -> bool
     ensures { result ≡ attributes_fit s.now }
 {
     let mut at = crate::HEADER;
-    loop {
-        match step_at(s, at) {
-            Step::One { next, .. } => at = next,
-            Step::End => return true,
-            Step::Short => return false,
-        }
+    while let Step::One { next, .. } = step_at(s, at) {
+        at = next;
     }
+    s.len() <= at
 }
 
 // Whether a datagram is a STUN message.
@@ -149,7 +146,7 @@ pub fn first_attribute(s: &[u8], number: u16) -> Option<Attribute>
     Attributes::of(s).find(|attribute| attribute.number == number)
 }
 
-// The first 16 unknown types as met, repeats kept: the first `count` of `types`.
+// The first 16 unknown types as met, repeats kept: the first `count` of `types`. An array with a count: no heap, fixed memory.
 #[derive(Clone, Copy)]
 pub struct UnknownTypes {
     pub types: [u16; 16],

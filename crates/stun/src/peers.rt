@@ -44,6 +44,7 @@ impl<'a> Iterator for Peers<'a> {
     ghost remaining = { item_count peers_left };
 
     fn next(&mut self) -> Option<Option<TransportAddress>> {
+        // `find` was tried, and the proof didn't close: the lemma `find_from_yields_List` doesn't say what is left after the one found.
         while let Some(attribute) = self.attributes.next() {
             if attribute.number == AttributeKind::XOR_PEER_ADDRESS {
                 return Some(address_at(self.message, attribute.start, attribute.len));

@@ -1,9 +1,8 @@
 // The values of a STUN message: its transaction id, its address values and its numbers of four bytes.
-ghost use Rattle.std.specs.Prelude.{◌≡◌, ◌+◌, ◌^◌, ◌<◌, ◌≤◌, length};
-ghost use Rattle.wire.specs.Wire.{num};
+ghost use Rattle.std.specs.Prelude.{◌≡◌, ◌+◌, ◌^◌, ◌≤◌, length};
 ghost use Rattle.stun.specs.AttributeNumbers.{channel_number, lifetime, requested_address_family, requested_transport};
 ghost use Rattle.stun.specs.Values.{transaction_id_of, v4_at, v6_at, address_at, number_value};
-ghost use Rattle.stun.specs.Inner.{width_of, Below};
+ghost use Rattle.stun.specs.Inner.{Below};
 
 use crate::kinds::AttributeKind;
 use crate::message::first_attribute;
@@ -73,25 +72,7 @@ pub fn address_at(s: &[u8], at: usize, len: usize) -> Option<TransportAddress>
 
 // ---- Numbers of four bytes
 
-// In how many of a value's four bytes the number is.
-#[derive(Clone, Copy)]
-pub enum Width {
-    One,
-    Two,
-    Four,
-}
-
-fn number_at(s: &[u8], at: usize, width: Width) -> u32
-    requires { at + 4 ≤ length s.now }
-    ensures { (result ≡ num s.now at (width_of width)) × (result < 256 ^ width_of width) }
-{
-    match width {
-        Width::One => u8::at(s, at) as u32,
-        Width::Two => u16::at(s, at) as u32,
-        Width::Four => u32::at(s, at),
-    }
-}
-
+// A number, or why there is none: three states, which no Option and no Result has.
 #[derive(Clone, Copy)]
 pub enum NumberValue {
     Number(u32),
@@ -100,10 +81,10 @@ pub enum NumberValue {
     Absent,
 }
 
-// The number in the first attribute of a type.
+// The number in the first attribute of a type: as many of its four bytes as N has.
 #[tactic(auto, unfolding(crate::specs::Values::number_value))]
-fn number_value(s: &[u8], number: u16, width: Width) -> NumberValue
-    ensures { (result ≡ number_value (width_of width) number s.now) × Below (256 ^ width_of width) result }
+fn number_value<N: Number>(s: &[u8], number: u16) -> NumberValue
+    ensures { (result ≡ number_value N.width number s.now) × Below (256 ^ N.width) result }
 {
     let Some(attribute) = first_attribute(s, number) else {
         return NumberValue::Absent;
@@ -111,29 +92,29 @@ fn number_value(s: &[u8], number: u16, width: Width) -> NumberValue
     if attribute.len != 4 {
         return NumberValue::WrongLength;
     }
-    NumberValue::Number(number_at(s, attribute.start, width))
+    NumberValue::Number(N::at(s, attribute.start).wide())
 }
 
 pub fn channel_number(s: &[u8]) -> NumberValue
     ensures { (result ≡ number_value 2 channel_number s.now) × Below (256 ^ 2) result }
 {
-    number_value(s, AttributeKind::CHANNEL_NUMBER, Width::Two)
+    number_value::<u16>(s, AttributeKind::CHANNEL_NUMBER)
 }
 
 pub fn lifetime(s: &[u8]) -> NumberValue
     ensures { (result ≡ number_value 4 lifetime s.now) × Below (256 ^ 4) result }
 {
-    number_value(s, AttributeKind::LIFETIME, Width::Four)
+    number_value::<u32>(s, AttributeKind::LIFETIME)
 }
 
 pub fn requested_address_family(s: &[u8]) -> NumberValue
     ensures { (result ≡ number_value 1 requested_address_family s.now) × Below (256 ^ 1) result }
 {
-    number_value(s, AttributeKind::REQUESTED_ADDRESS_FAMILY, Width::One)
+    number_value::<u8>(s, AttributeKind::REQUESTED_ADDRESS_FAMILY)
 }
 
 pub fn requested_transport(s: &[u8]) -> NumberValue
     ensures { (result ≡ number_value 1 requested_transport s.now) × Below (256 ^ 1) result }
 {
-    number_value(s, AttributeKind::REQUESTED_TRANSPORT, Width::One)
+    number_value::<u8>(s, AttributeKind::REQUESTED_TRANSPORT)
 }

@@ -1,7 +1,7 @@
 -- The laws of searches and surveys: what one more slot at the end changes, and what a loop over the slots keeps.
 use Prim.Native.Nat.{ℕ, suc, ◌+◌, ◌≤◌, ◌<◌, ◌^◌}
 use mathlib.Core.Path.{◌≡◌, refl, sym, ◌∙◌, ap, subst}
-use mathlib.Core.Bool.{Bool, true, false, not, false≢true}
+use mathlib.Core.Bool.{Bool, true, false, false≢true}
 use mathlib.Core.List.{List, [], ◌∷◌, ◌++◌}
 use Rattle.std.specs.Prelude.{Option, Some, None}
 use native.Mathlib.Numerals.{add-one}
@@ -14,13 +14,13 @@ use Rattle.choice.specs.Choice.{pick, both}
 use Rattle.slot.specs.declared.Allocation.{Allocation}
 use Rattle.slot.specs.declared.Slot.{Slot}
 use Rattle.slot.specs.Inner.{held_in}
-use Rattle.slot.specs.Search.{further, find, has, or_else, at_or}
-use Rattle.slot.specs.Slot.{fresh_slot, live_allocation, holds, holds_user, holds_port}
+use Rattle.slot.specs.Search.{further, find, has, or_else}
+use Rattle.slot.specs.Slot.{live_allocation, holds, holds_user, holds_port}
 use Rattle.table.specs.declared.surveys.Survey.{Survey}
 use Rattle.table.specs.declared.keys.Key.{Key}
 use Rattle.table.specs.declared.keys.Key.TheVariants.{Client, Port}
 use Rattle.table.specs.declared.keys.Wanted.{Wanted}
-use Rattle.table.specs.Table.{slot_at, in_slot, count, lapsed}
+use Rattle.table.specs.Table.{in_slot, count, lapsed}
 use Rattle.table.specs.Inner.{keyed, searched, Surveyed, Looked, place_of, Within, SurveyedWith}
 
 -- ---- one more entry at the end of a list
@@ -182,27 +182,11 @@ look_found n f o = record { own = o ∙ f; room = λ told. absurd (none_some (sy
 pub own_within : (l : List Slot) {wanted : Wanted} {survey : Survey} → Looked l wanted survey → Within survey.own (length l)
 own_within l {wanted} {survey} w = found_within (in_slot (keyed wanted.time wanted.key)) l survey.own w.own
 
--- the slot at the place found
+-- the place found
 module _ (l : List Slot) {there : Bool} (found : Option ℕ) (h : there ≡ has found) where
-  pub slot_there : {k : ℕ} {slot : Slot} → there ≡ true → k ≡ place_of found → slot ≡ slot_at l k → slot ≡ at_or fresh_slot found l
-  unfolding at_or
-  slot_there {k} {slot} y p e = go found (sym h ∙ y) p
-    where
-      go : (f : Option ℕ) → has f ≡ true → k ≡ place_of f → slot ≡ at_or fresh_slot f l
-      go (Some i) t q = e ∙ ap (slot_at l) q
-      go None t q = absurd (false≢true t)
-
   pub place_there : {k : ℕ} → there ≡ true → k ≡ place_of found → Within found (length l) → k < length l
   place_there {k} y p w = go found (sym h ∙ y) p w
     where
       go : (f : Option ℕ) → has f ≡ true → k ≡ place_of f → Within f (length l) → k < length l
       go (Some i) t q v = rw q v
       go None t q v = absurd (false≢true t)
-
-  pub slot_missing : {slot : Slot} → not there ≡ true → slot ≡ fresh_slot → slot ≡ at_or fresh_slot found l
-  unfolding at_or
-  slot_missing {slot} n e = go found (sym (ap not h) ∙ n)
-    where
-      go : (f : Option ℕ) → not (has f) ≡ true → slot ≡ at_or fresh_slot f l
-      go (Some i) t = absurd (false≢true t)
-      go None t = e

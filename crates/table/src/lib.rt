@@ -13,11 +13,12 @@ use surveys::{Survey, first_survey, only_own, surveyed_with};
 pub mod keys;
 pub mod surveys;
 
-pub fn slot_at(slots: &[Slot], k: usize) -> Slot
+// The slot at a place, lent where it lies.
+pub fn slot_at(slots: &[Slot], k: usize) -> &Slot
     requires { k < length slots.now }
-    ensures { result ≡ slot_at slots.now k }
+    ensures { result.now ≡ slot_at slots.now k }
 {
-    slots[k]
+    &slots[k]
 }
 
 pub fn put_slot(slots: &mut [Slot], k: usize, slot: Slot)

@@ -10,7 +10,6 @@ ghost use Rattle.text.specs.Text.{digit_value, number_from, decimal_of, hex_word
 ghost use Rattle.text.specs.Inner.{ReadHex};
 
 use address::Address;
-use choice::both;
 
 pub mod scan;
 
@@ -33,6 +32,7 @@ fn put_digits(out: &mut [u8], n: u64, base: u64, width: usize)
     ensures { Wrote (digits_of base width n) out.old out.new }
 {
     let mut left = n;
+    // By place: the digits fill the front of out from the last to the first, and the rest stays.
     for i in (0..width).rev() {
         out[i] = digit(left % base);
         left /= base;
@@ -138,7 +138,7 @@ fn is_digit(c: u8) -> bool
     if c < 58 {
         48 <= c
     } else {
-        both(97 <= c, c <= 102)
+        (97 <= c) & (c <= 102)
     }
 }
 
@@ -186,7 +186,7 @@ pub fn is_hex(s: &[u8]) -> bool
 {
     let mut good = s.len() % 2 == 0;
     for c in s {
-        good = both(good, is_digit(*c));
+        good &= is_digit(*c);
     }
     good
 }
@@ -208,6 +208,7 @@ pub fn read_hex_bytes(s: &[u8], out: &mut [u8]) -> Option<usize>
         return None;
     }
     let n = s.len() / 2;
+    // By place: each byte of out is of two places of s.
     for k in 0..n {
         let high = value_of_digit(s[2 * k]);
         let low = value_of_digit(s[2 * k + 1]);

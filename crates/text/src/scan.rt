@@ -3,8 +3,6 @@ ghost use Rattle.std.specs.Prelude.{◌≡◌, true, ◌≤◌, length};
 ghost use Rattle.text.specs.Scan.{index_of};
 ghost use Rattle.text.specs.Inner.{Past};
 
-use choice::both;
-
 const BLOCK: usize = 16;
 
 // Whether the byte is none of the block's: all of them are tested at once.
@@ -13,7 +11,7 @@ fn is_past(block: &[u8], b: u8) -> bool
 {
     let mut past = true;
     for c in block {
-        past = both(past, *c != b);
+        past &= *c != b;
     }
     past
 }
@@ -30,6 +28,7 @@ pub fn find_far(a: &[u8], b: u8) -> usize
     ensures { (result ≡ index_of b a.now) × (result ≤ length a.now) }
 {
     let mut start: usize = 0;
+    // A step of sixteen with a rest: chunks would search the rest apart, and be no plainer.
     while BLOCK <= a.len() - start {
         if !is_past(&a[start..start + BLOCK], b) {
             break;

@@ -2,7 +2,8 @@
 // Each writer gets the part of a buffer that starts after what is written already, and leaves the bytes behind its own as they were.
 #![tactic(auto)]
 
-ghost use Rattle.std.specs.Prelude.{◌≡◌, ℕ, ◌+◌, ◌≤◌, length, replicate};
+ghost use Rattle.std.specs.Prelude.{◌≡◌, ℕ, ◌+◌, ◌^◌, ◌<◌, ◌≤◌, length, replicate};
+ghost use Rattle.std.proofs.Common.{arith};
 ghost use Rattle.wire.specs.Wire.{num, bytes_of, part_of};
 ghost use Rattle.wire.specs.Inner.{Wrote, WroteAt};
 
@@ -25,6 +26,13 @@ pub trait Number: Copy {
         requires { width ≤ length out.old }
         ensures { Wrote (bytes_of width (value self)) out.old out.new };
 
+    // The value as a number of four bytes.
+    fn wide(self) -> u32
+        ensures { (result ≡ value self) × (result < 256 ^ width) };
+
+    // At most four bytes.
+    ghost narrow: { width ≤ 4 };
+
     // A value is of one number alone.
     ghost distinct: { (a b : Self) → value a ≡ value b → a ≡ b };
 }
@@ -42,6 +50,12 @@ impl Number for u8 {
         out[0] = self;
     }
 
+    fn wide(self) -> u32 {
+        u32::from(self)
+    }
+
+    ghost narrow = { omega arith };
+
     ghost distinct = { λ a b same. same };
 }
 
@@ -57,6 +71,12 @@ impl Number for u16 {
     fn put(self, out: &mut [u8]) {
         out[..2].copy_from_slice(&self.to_be_bytes());
     }
+
+    fn wide(self) -> u32 {
+        self as u32
+    }
+
+    ghost narrow = { omega arith };
 
     ghost distinct = { λ a b same. same };
 }
@@ -74,6 +94,12 @@ impl Number for u32 {
         out[..4].copy_from_slice(&self.to_be_bytes());
     }
 
+    fn wide(self) -> u32 {
+        self
+    }
+
+    ghost narrow = { omega arith };
+
     ghost distinct = { λ a b same. same };
 }
 
@@ -87,7 +113,7 @@ pub fn put_at<N: Number>(out: &mut [u8], at: usize, n: N)
 
 // ---- Bytes
 
-// The len bytes from start on, shown and not copied; the empty part where they lie outside.
+// The len bytes from start on, shown and not copied; the empty part where they lie outside. Numbers, for they may lie outside: `part_of`.
 pub fn part(s: &[u8], start: usize, len: usize) -> &[u8]
     ensures { result.now ≡ part_of s.now start len }
 {

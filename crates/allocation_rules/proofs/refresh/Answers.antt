@@ -7,11 +7,11 @@ use Rattle.allocation_rules.proofs.refresh.Goals as goal
 
 pub returns-in-Err : goal.returns-in-Err
 unfolding refresh
-returns-in-Err c = answers_error _ _ _ _ c.check_refresh.ensures c.in-Err.is c.respond_error.ensures
+returns-in-Err c = answers_error _ _ _ _ c.check_refresh.ensures.code c.in-Err.is c.respond_error.ensures
 
 pub refreshed-slot-requires : goal.refreshed-slot-requires
 refreshed-slot-requires c = let g : c.granted_refresh-seconds.result ≤ 3600 = rw c.granted_refresh-seconds.ensures (granted_refresh_small c.lifetime.result) in omega arith
 
 pub returns : goal.returns
 unfolding refresh
-returns c = rw (← c.lifetime.ensures.0, ← c.granted_refresh-seconds.ensures, ← c.transaction_id.ensures) (answers_accepted _ _ _ _ c.check_refresh.ensures c.in_default.is (written_with c.refreshed-slot.ensures c.put_refresh_success-len.ensures))
+returns c = rw (← c.lifetime.ensures.0, ← c.granted_refresh-seconds.ensures, ← c.transaction_id.ensures) (answers_accepted _ _ _ _ c.check_refresh.ensures.code c.in-Ok.is (written_with (rw c.in-Ok.ensures.slot at c.refreshed-slot.ensures) c.put_refresh_success-len.ensures))

@@ -12,4 +12,4 @@ returns-in-Client c = rw (c.in-Client.is, ← client_asked _ c.in-Client.is c.re
 pub returns-in-Peer : goal.returns-in-Peer
 returns-in-Peer c =
     let told = c.in-Peer.is in
-    rw (told, c.answer_dropped.ensures) (peer_dropped _ _ (c.requires.1 (peer_data _ told c.requires.0.1)) _ _ _)
+    rw (told, c.answer_dropped.ensures) (λ slots l o. peer_dropped _ (c.requires.1 (peer_data _ told c.requires.0.1)) _ _ _ slots o)

@@ -1,9 +1,8 @@
-use mathlib.Core.Path.{refl, ap, ◌∙◌}
+use mathlib.Core.Path.{refl, ap}
 use Rattle.decisions.specs.declared.client.Asked.TheVariants as Asked
 use Rattle.allocation_rules.specs.Allocations.{refresh}
 use Rattle.permission_rules.specs.Permissions.{create_permission, channel_bind}
 use Rattle.decisions.specs.Inner.{is_data}
-use Rattle.slot.proofs.Laws.{has_is}
 use Rattle.decisions.proofs.Laws.{stun_long, own_answers, client_dropped}
 use Rattle.decisions.proofs.answer_client.Goals as goal
 
@@ -32,25 +31,25 @@ pub returns-in-Allocate : goal.returns-in-Allocate
 returns-in-Allocate c = rw c.in-Allocate.is c.answer_allocate.ensures
 
 pub returns-in-Refresh : goal.returns-in-Refresh
-returns-in-Refresh c = rw (c.in-Refresh.is, ← c.client_call.ensures) (own_answers c.args.call Asked.Refresh (c.is_some.ensures ∙ has_is c.args.survey.own) (refresh c.client_call.result c.args.datagram.now) c.refresh.ensures)
+returns-in-Refresh c = rw (c.in-Refresh.is, ← c.client_call.ensures) (λ slots l o. own_answers c.args.call Asked.Refresh (refresh c.client_call.result c.args.datagram.now) c.refresh.ensures slots o)
 
 pub returns-in-CreatePermission : goal.returns-in-CreatePermission
-returns-in-CreatePermission c = rw (c.in-CreatePermission.is, ← c.client_call-in-CreatePermission.ensures) (own_answers c.args.call Asked.CreatePermission (c.is_some-in-CreatePermission.ensures ∙ has_is c.args.survey.own) (create_permission c.client_call-in-CreatePermission.result c.args.datagram.now c.args.denied) c.create_permission.ensures)
+returns-in-CreatePermission c = rw (c.in-CreatePermission.is, ← c.client_call-in-CreatePermission.ensures) (λ slots l o. own_answers c.args.call Asked.CreatePermission (create_permission c.client_call-in-CreatePermission.result c.args.datagram.now c.args.denied) c.create_permission.ensures slots o)
 
 pub returns-in-ChannelBind : goal.returns-in-ChannelBind
-returns-in-ChannelBind c = rw (c.in-ChannelBind.is, ← c.client_call-in-ChannelBind.ensures) (own_answers c.args.call Asked.ChannelBind (c.is_some-in-ChannelBind.ensures ∙ has_is c.args.survey.own) (channel_bind c.client_call-in-ChannelBind.result c.args.datagram.now c.args.denied) c.channel_bind.ensures)
+returns-in-ChannelBind c = rw (c.in-ChannelBind.is, ← c.client_call-in-ChannelBind.ensures) (λ slots l o. own_answers c.args.call Asked.ChannelBind (channel_bind c.client_call-in-ChannelBind.result c.args.datagram.now c.args.denied) c.channel_bind.ensures slots o)
 
 pub returns-in-Send : goal.returns-in-Send
 returns-in-Send c =
     let y = ap is_data c.in-Send.is in
-    rw c.answer_dropped.ensures (client_dropped _ _ (c.requires.1 y) c.args.datagram.now _ c.args.call c.args.asked y)
+    rw c.answer_dropped.ensures (λ slots l o. client_dropped _ (c.requires.1 y) c.args.datagram.now _ c.args.call c.args.asked y slots o)
 
 pub returns-in-ChannelData : goal.returns-in-ChannelData
 returns-in-ChannelData c =
     let y = ap is_data c.in-ChannelData.is in
-    rw c.answer_dropped-in-ChannelData.ensures (client_dropped _ _ (c.requires.1 y) c.args.datagram.now _ c.args.call c.args.asked y)
+    rw c.answer_dropped-in-ChannelData.ensures (λ slots l o. client_dropped _ (c.requires.1 y) c.args.datagram.now _ c.args.call c.args.asked y slots o)
 
 pub returns-in-Nothing : goal.returns-in-Nothing
 returns-in-Nothing c =
     let y = ap is_data c.in-Nothing.is in
-    rw c.answer_dropped-in-Nothing.ensures (client_dropped _ _ (c.requires.1 y) c.args.datagram.now _ c.args.call c.args.asked y)
+    rw c.answer_dropped-in-Nothing.ensures (λ slots l o. client_dropped _ (c.requires.1 y) c.args.datagram.now _ c.args.call c.args.asked y slots o)

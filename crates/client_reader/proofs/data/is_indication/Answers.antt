@@ -2,6 +2,7 @@ use Prim.Native.Nat.{◌+◌, ◌-◌}
 use mathlib.Core.Path.{refl}
 use lib.ListN.{length, drop, length-take, length-drop}
 use native.Mathlib.Omega.{arith}
+use Rattle.choice.proofs.Laws.{and_both}
 use Rattle.messages.specs.Messages.{padding}
 use Rattle.client_reader.proofs.Around.{indication_same, zeros_told}
 use Rattle.client_reader.proofs.data.is_indication.Goals as goal
@@ -14,6 +15,6 @@ returns c =
     let a = c in
     let s = a.args.s.now in
     let len = a.args.len in
-    let told = zeros_told c.same.result (padding len) (length s - (36 + len)) (drop (36 + len) s) (omega arith) (rw length-drop (omega arith)) c.same.ensures in
-    rw (c.both.ensures, c.indication_head.ensures, c.both-padded.ensures, c.at.ensures, ← a.requires.0)
-    (indication_same s (λ i. (c.type_inv.s i).fits) len (padding len) a.requires.0 refl a.requires.1 a.requires.2 c.same.result told)
+    let told = zeros_told c.same-padded.result (padding len) (length s - (36 + len)) (drop (36 + len) s) (omega arith) (rw length-drop (omega arith)) c.same-padded.ensures in
+    rw (and_both, and_both, c.indication_head.ensures, c.at.ensures, ← a.requires.0)
+    (indication_same s (λ i. (c.type_inv.s i).fits) len (padding len) a.requires.0 refl a.requires.1 a.requires.2 c.same-padded.result told)

@@ -1,6 +1,6 @@
 use mathlib.Core.Path.{refl, ◌∙◌, sym}
 use native.Mathlib.Omega.{arith}
-use Rattle.stun.proofs.Laws.{walk_by, step_on}
+use Rattle.stun.proofs.Laws.{walk_by, step_on, fit_over}
 use Rattle.stun.proofs.message.attributes_fit.Goals as goal
 
 pub loop-next-init : goal.loop-next-init
@@ -12,8 +12,5 @@ loop-next-smaller c = let l = step_on _ _ (sym c.step_at.ensures ∙ c.in-One.is
 pub loop-next-preserved : goal.loop-next-preserved
 loop-next-preserved c = c.loop-next.invariant ∙ walk_by _ _ _ _ _ (sym c.step_at.ensures ∙ c.in-One.is)
 
-pub returns-in-End : goal.returns-in-End
-returns-in-End c = sym (c.loop-next.invariant ∙ walk_by _ _ _ _ _ (sym c.step_at.ensures ∙ c.in-End.is))
-
-pub returns-in-Short : goal.returns-in-Short
-returns-in-Short c = sym (c.loop-next.invariant ∙ walk_by _ _ _ _ _ (sym c.step_at.ensures ∙ c.in-Short.is))
+pub returns : goal.returns
+returns c = sym (c.loop-next.invariant ∙ fit_over _ _ (λ a x one. c.in_default.not-One a x (c.step_at.ensures ∙ one)))
