@@ -1,4 +1,4 @@
-// Allocate and Refresh, by value: from a lent datagram and what the look over the table found, the outcome, the slot and the reply.
+// Allocate and Refresh: from a lent datagram, the slot that was found and what the look over the table learned, the outcome, the slot and the reply.
 #![tactic(auto)]
 
 ghost use Rattle.std.specs.Prelude.{◌≡◌, ◌≤◌, ◌^◌, length, is_some, IfSome, IfOk};

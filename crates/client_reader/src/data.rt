@@ -11,6 +11,7 @@ use stun::values::transaction_id;
 use wire::Number;
 
 #[tactic(auto, unfolding(crate::specs::Inner::data_fits, choice::specs::Choice::both))]
+// The start and the length, and no part: it says whether there is such a part.
 fn data_fits(start: usize, len: usize, s: &[u8]) -> bool
     requires { (start ≤ 36) × (len < 65536) }
     ensures { result ≡ data_fits start len s.now }

@@ -1,4 +1,4 @@
-// What a call does, by value: what it asks, the look over the slots that this needs, and what becomes of the slot that was found.
+// What a call does: what it asks, the look over the slots that this needs, and what becomes of the slot that was found.
 #![tactic(auto)]
 
 ghost use Rattle.std.specs.Prelude.{◌≡◌, Bool, true, false, List, ℕ, ◌≤◌, length, is_some};
@@ -128,7 +128,7 @@ pub fn place_for(seen: Seen) -> usize
     place_of(own)
 }
 
-// A client's call as the rules take it.
+// A client's call as the rules take it. No struct update: the user is of another type, and where the search for a port starts is left out.
 fn client_call(call: FromClient) -> ClientCall
     requires { call.user ≤ 32 }
     ensures { result ≡ as_rules call }

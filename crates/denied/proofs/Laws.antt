@@ -18,8 +18,8 @@ use Rattle.text.specs.Text.{hex_word_of, decimal_of}
 use Rattle.text.proofs.Laws.{hex_word_only}
 use Rattle.denied.specs.declared.tree.Tree.{Tree}
 use Rattle.denied.specs.Prefixes.{prefix, started_by, lines_of, is_prefix, prefix_from, line_of}
-use Rattle.denied.specs.Inner.{WordOf, LineFits, Gives}
-use Rattle.denied.specs.Denied.{on_line, and_then, on_lines, prefixes_of, read_denied}
+use Rattle.denied.specs.Inner.{WordOf, LineFits}
+use Rattle.denied.specs.Denied.{on_line, and_then, on_lines, prefixes_of, read_denied, Gives}
 use Rattle.denied.specs.Tree.{bit_of, child_of, is_listed, is_child, denied_below, tree, empty_tree, grow}
 
 pub one_more : {n : ℕ} → 0 < n → n ≡ suc (n - 1)

@@ -1,5 +1,5 @@
 -- What becomes of a text: 'Refusals: bad line 9, more nodes than 512 needed 10, the first such line deciding, both leaving the old tree'.
-use Rattle.std.specs.Prelude.{ℕ, List, [], ◌∷◌, map, None, Some, Result, Ok, Err, ok_or}
+use Rattle.std.specs.Prelude.{ℕ, ◌≡◌, List, [], ◌∷◌, map, None, Some, Result, Ok, Err, ok_or}
 use Rattle.refusal.specs.declared.Refusal.{Refusal}
 use Rattle.refusal.specs.declared.Refusal.TheVariants.{BadLine, TooManyNodes}
 use Rattle.refusal.specs.Refusal.{number}
@@ -41,3 +41,18 @@ taken (Err refusal) old = reading (number refusal) 0 old
 
 unfoldable pub read_denied : (text old : List ℕ) → Reading
 read_denied text old = taken (on_lines empty_tree (prefixes_of text)) old
+
+-- the number of a refusal, or 0
+abbrev pub number_of : {T : Type 0} → Result T Refusal → ℕ
+number_of (Ok value) = 0
+number_of (Err refusal) = number refusal
+
+abbrev pub count_of : Result ℕ Refusal → ℕ
+count_of (Ok count) = count
+count_of (Err refusal) = 0
+
+-- what a text was read as, in what is given back and the nodes afterwards
+pub record Gives (reading : Reading) (result : Result ℕ Refusal) (nodes : List ℕ) : Type 0 where
+  pub number_is : number_of result ≡ reading.number
+  pub count_is : count_of result ≡ reading.count
+  pub nodes_are : nodes ≡ reading.nodes

@@ -3,8 +3,7 @@
 
 ghost use Rattle.std.specs.Prelude.{◌≡◌, OnErr};
 ghost use Rattle.denied.specs.Prefixes.{line_of};
-ghost use Rattle.denied.specs.Denied.{on_line, read_denied};
-ghost use Rattle.denied.specs.Inner.{Gives};
+ghost use Rattle.denied.specs.Denied.{on_line, read_denied, Gives};
 
 use prefixes::line_of;
 use refusal::Refusal;

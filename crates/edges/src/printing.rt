@@ -80,7 +80,7 @@ fn write_error(rt: &impl Print, method: Method, code: u16) {
     let _ = print!(rt; " error {code}");
 }
 
-// The types that a 420 names: how many, and the first.
+// The types that a 420 names: how many, and the first. The array with its count is the message's, which has no heap.
 fn write_unknown(rt: &impl Print, count: usize, types: [u16; 16]) {
     let _ = print!(rt; ", types {count} from {:04x}", types[0]);
 }

@@ -1,4 +1,4 @@
-// CreatePermission and ChannelBind, by value: from a lent datagram and the slot that was found, the outcome, the slot and the reply.
+// CreatePermission and ChannelBind: from a lent datagram and the slot that was found, the outcome, the slot and the reply.
 #![tactic(auto)]
 
 pub mod channels;

@@ -41,7 +41,7 @@ pub struct Answer {
     pub written: Option<Slot>,
 }
 
-// The error response, with the slot as it was.
+// The error response; no slot is written.
 pub fn respond_error(
     s: &[u8],
     reply: &mut [u8],

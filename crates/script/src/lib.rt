@@ -29,6 +29,7 @@ fn line_in(input: &[u8], start: usize, end: usize) -> &[u8]
     input.get(start..end).unwrap_or(&[])
 }
 
+// `start` and `end` are `run_line`'s promise.
 fn read_in(input: &[u8], start: usize, end: usize, buffer: &mut [u8]) -> Option<Request>
     requires { 1600 ≤ length buffer.old }
     ensures { Reads (line_of (line_in start end input.now)) buffer.new result }

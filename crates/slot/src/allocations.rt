@@ -28,8 +28,8 @@ pub fn allocation_is_live(time: u64, allocation: Allocation) -> bool
     is_live(time, allocation.expiry)
 }
 
-// One line each: a function over the test would need a contract about every test.
 // Whether the allocation is live and has the 5-tuple.
+// One line each: a function over the test would need a contract about every test.
 #[tactic(auto, using(address::proofs::Laws::eq_five_tuple), unfolding(crate::specs::Slot::holds, choice::specs::Choice::both))]
 pub fn holds(time: u64, five_tuple: FiveTuple, allocation: Allocation) -> bool
     ensures { result ≡ holds time five_tuple allocation }

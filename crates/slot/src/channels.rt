@@ -33,8 +33,8 @@ pub fn channel_is_live(time: u64, channel: Channel) -> bool
     is_live(time, channel.expiry) && is_channel_number(channel.number)
 }
 
-// One line each: a function over the test would need a contract about every test.
 // Whether the channel is live and has the number.
+// One line each: a function over the test would need a contract about every test.
 #[tactic(auto, unfolding(crate::specs::Slot::numbered, choice::specs::Choice::both))]
 pub(crate) fn numbered(time: u64, number: u16, channel: Channel) -> bool
     ensures { result ≡ numbered time number channel }
@@ -50,8 +50,8 @@ pub(crate) fn leads_to(time: u64, peer: TransportAddress, channel: Channel) -> b
     channel_is_live(time, channel) && channel.peer == peer
 }
 
-// One line each: a function over the test would need a contract about every test.
 // The lowest live channel with the number.
+// One line each: a function over the test would need a contract about every test.
 pub fn channel_by_number(time: u64, number: u16, channels: [Channel; 8]) -> Option<usize>
     ensures { result ≡ find (numbered time number) channels }
 {
@@ -79,8 +79,8 @@ pub fn channel_at(found: Option<usize>, channels: [Channel; 8]) -> Channel
     }
 }
 
-// Two short functions: one over the search and the test would need a contract about every pair of them.
 // Whether the number is live for another peer.
+// Two short functions: one over the search and the test would need a contract about every pair of them.
 #[tactic(auto, using(crate::proofs::Laws::has_is, address::proofs::Laws::eq_transport_address), unfolding(crate::specs::Slot::number_taken, choice::specs::Choice::both))]
 pub fn number_taken(time: u64, number: u16, peer: TransportAddress, channels: [Channel; 8]) -> bool
     ensures { result ≡ number_taken time number peer channels }
@@ -100,8 +100,7 @@ pub fn peer_taken(time: u64, number: u16, peer: TransportAddress, channels: [Cha
     found.is_some() && channel.number != number
 }
 
-// One line each: a function over the test would need a contract about every test.
-// The lowest channel that isn't live.
+// The lowest channel that isn't live. A trait of what expires would be longer than this and the one of permissions.
 fn lowest_free(time: u64, channels: [Channel; 8]) -> Option<usize>
     ensures { result ≡ find (free_channel time) channels }
 {
@@ -110,8 +109,8 @@ fn lowest_free(time: u64, channels: [Channel; 8]) -> Option<usize>
         .position(|channel| !channel_is_live(time, *channel))
 }
 
-// As for an IP address in `permission_entry`: one function over both searches would need a contract about every pair of them.
 // The entry for a number: its live channel, or else the lowest that isn't live.
+// As `permission_entry`: a trait of what expires, for the two lines of each, would be longer than both.
 pub(crate) fn channel_entry(time: u64, number: u16, channels: [Channel; 8]) -> Option<usize>
     ensures { result ≡ channel_entry time number channels }
 {

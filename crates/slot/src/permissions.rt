@@ -28,8 +28,8 @@ pub fn permission_is_live(time: u64, permission: Permission) -> bool
     is_live(time, permission.expiry)
 }
 
-// One line each: a function over the test would need a contract about every test.
 // Whether the permission is live and for the IP address, at any port.
+// One line each: a function over the test would need a contract about every test.
 #[tactic(auto, using(address::proofs::Laws::eq_address), unfolding(crate::specs::Slot::permits, choice::specs::Choice::both))]
 pub(crate) fn permits(time: u64, address: Address, permission: Permission) -> bool
     ensures { result ≡ permits time address permission }
@@ -37,8 +37,8 @@ pub(crate) fn permits(time: u64, address: Address, permission: Permission) -> bo
     permission_is_live(time, permission) && permission.address == address
 }
 
-// One line each: a function over the test would need a contract about every test.
 // The lowest live permission for the IP address.
+// One line each: a function over the test would need a contract about every test.
 pub(crate) fn find_permission(
     time: u64,
     address: Address,
@@ -68,7 +68,7 @@ pub fn permission_state(
     PermissionState::Never
 }
 
-// The lowest permission that isn't live.
+// The lowest permission that isn't live. A trait of what expires would be longer than this and the one of channels.
 fn lowest_free(time: u64, permissions: [Permission; 8]) -> Option<usize>
     ensures { result ≡ find (free_permission time) permissions }
 {
@@ -78,6 +78,7 @@ fn lowest_free(time: u64, permissions: [Permission; 8]) -> Option<usize>
 }
 
 // The entry for an IP address: its live permission, or else the lowest that isn't live.
+// As `channel_entry`: a trait of what expires, for the two lines of each, would be longer than both.
 pub(crate) fn permission_entry(
     time: u64,
     address: Address,

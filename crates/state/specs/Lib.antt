@@ -1,4 +1,3 @@
-pub mod Inner
 pub mod Outcomes
 pub mod State
 pub mod Step

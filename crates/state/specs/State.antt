@@ -1,9 +1,10 @@
 -- The relay's state: 'A clock and 64 slots.' What later rules keep beside the slots is a field of `Bookkeeping`.
-use Rattle.std.specs.Prelude.{ℕ, List, replicate}
+use Rattle.std.specs.Prelude.{ℕ, ◌≡◌, List, Result, replicate}
+use Rattle.refusal.specs.declared.Refusal.{Refusal}
 use Rattle.slot.specs.declared.Slot.{Slot}
 use Rattle.slot.specs.Slot.{fresh_slot}
 use Rattle.denied.specs.Tree.{none_denied}
-use Rattle.denied.specs.Denied.{read_denied}
+use Rattle.denied.specs.Denied.{read_denied, number_of, count_of}
 use Rattle.state.specs.declared.Bookkeeping.{Bookkeeping}
 
 pub record State : Type 0 where
@@ -54,3 +55,9 @@ denying bookkeeping text =
 -- the same state but for the slots
 abbrev pub with_slots : List Slot → State → State
 with_slots slots st = state slots st.bookkeeping
+
+-- what became of a text, in what is given back and what is kept afterwards
+pub record Denied (denying : Denying) (result : Result ℕ Refusal) (bookkeeping : Bookkeeping) : Type 0 where
+  pub number_is : number_of result ≡ denying.number
+  pub count_is : count_of result ≡ denying.count
+  pub bookkeeping_is : bookkeeping ≡ denying.bookkeeping

@@ -3,8 +3,7 @@
 #![tactic(auto)]
 
 ghost use Rattle.std.specs.Prelude.{◌≡◌, OnErr};
-ghost use Rattle.state.specs.State.{fresh_bookkeeping, at_clock, denying};
-ghost use Rattle.state.specs.Inner.{Denied};
+ghost use Rattle.state.specs.State.{fresh_bookkeeping, at_clock, denying, Denied};
 
 use denied::read_denied;
 use denied::tree::none_denied;

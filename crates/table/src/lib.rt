@@ -1,5 +1,5 @@
-// The table's slots, lent as a slice. Only the functions of this file touch that memory, one slot at a time; every decision is by
-// value, in the modules.
+// The table's slots, lent as a slice: one is lent on or written, and all are looked over, the allocations alone. What a look learns of one
+// slot is by value, in the modules.
 #![tactic(auto)]
 
 ghost use Rattle.std.specs.Prelude.{◌≡◌, ◌<◌, length, set};

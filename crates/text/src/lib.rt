@@ -83,6 +83,7 @@ fn put_v6(out: &mut [u8], a: u32, b: u32, c: u32, d: u32)
     put_hex_word_at(out, 24, d);
 }
 
+// Digits here, and bytes in `messages`: two tables of two numbers.
 pub fn address_size(address: Address) -> usize
     ensures { (result ≡ length (address_text address)) × (result ≤ 32) }
 {
