@@ -4,7 +4,7 @@ use lib.Dec.{eqb}
 use mathlib.Core.Bool.{Bool, true, false, ◌&&◌, false≢true}
 use borrow.Author.Tests.{eqb-true, eq-eqb, ne_eqb}
 use Rattle.choice.specs.Choice.{both}
-use Rattle.choice.proofs.Laws.{both_parts, both_true, both_no}
+use Rattle.choice.proofs.Laws.{and_both, both_parts, both_true, both_no}
 use Rattle.address.specs.declared.Address.{Address}
 use Rattle.address.specs.declared.Address.TheVariants.{V4, V6}
 use Rattle.address.specs.declared.TransportAddress.{TransportAddress}
@@ -70,27 +70,22 @@ five_tuple_refl a =
     both_true _ _ (transport_address_refl a.client) (both_true _ _ (transport_address_refl a.server) (eq-eqb a.protocol a.protocol refl))
 
 -- ---- what `==` computes
-and-both : (a b : Bool) → (a && b) ≡ both a b
-unfolding both
-and-both true b = refl
-and-both false b = refl
-
 pub eq_address : (a b : Address) → (address_eq.ghosts).eq a b ≡ same_address a b
 unfolding same_address
 eq_address (V4 a) (V4 b) = refl
 eq_address (V4 a) (V6 e f g h) = refl
 eq_address (V6 a b c d) (V4 e) = refl
-eq_address (V6 a b c d) (V6 e f g h) = rw (and-both, and-both, and-both)
+eq_address (V6 a b c d) (V6 e f g h) = rw (and_both, and_both, and_both)
 
 pub eq_transport_address : (a b : TransportAddress) → (transport_address_eq.ghosts).eq a b ≡ same_transport_address a b
 unfolding same_transport_address
 eq_transport_address a b =
-    ap (λ (same : Bool). same && eqb a.port b.port) (eq_address a.address b.address) ∙ and-both (same_address a.address b.address) (eqb a.port b.port)
+    ap (λ (same : Bool). same && eqb a.port b.port) (eq_address a.address b.address) ∙ and_both (same_address a.address b.address) (eqb a.port b.port)
 
 pub eq_five_tuple : (a b : FiveTuple) → (five_tuple_eq.ghosts).eq a b ≡ same_five_tuple a b
 unfolding same_five_tuple
-eq_five_tuple a b = rw (eq_transport_address a.client b.client, eq_transport_address a.server b.server, and-both, and-both)
+eq_five_tuple a b = rw (eq_transport_address a.client b.client, eq_transport_address a.server b.server, and_both, and_both)
 
 pub eq_transaction_id : (a b : TransactionId) → (transaction_id_eq.ghosts).eq a b ≡ same_transaction_id a b
 unfolding same_transaction_id
-eq_transaction_id a b = rw (and-both, and-both)
+eq_transaction_id a b = rw (and_both, and_both)

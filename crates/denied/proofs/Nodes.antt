@@ -19,13 +19,13 @@ use Rattle.text.specs.Text.{hex_word_of, decimal_of}
 use Rattle.std.specs.Prelude.{Option, None, Some, Result, Ok, Err, ok_or}
 use Rattle.refusal.specs.declared.Refusal.{Refusal}
 use Rattle.refusal.specs.declared.Refusal.TheVariants.{TimeBelowClock, TimeTooLate, ShortReply, LongDatagram, UnknownUser, NotSixtyFourSlots, NotUdp, ShortOutput, BadLine, TooManyNodes}
-use Rattle.refusal.specs.Refusal.{number}
+use Rattle.refusal.specs.Refusal.{number, number_of}
 use Rattle.denied.specs.declared.prefixes.Prefix.{Prefix}
 use Rattle.denied.specs.declared.tree.Tree.{Tree}
 use Rattle.denied.specs.Prefixes.{Line, prefix, lines_of, line_of}
 use Rattle.denied.specs.Inner.{LineFits}
 use Rattle.denied.specs.Tree.{child_of, is_listed, is_child, bit_of, empty_tree, tree, grow, with_prefix}
-use Rattle.denied.specs.Denied.{on_line, and_then, on_lines, prefixes_of, taken, read_denied, number_of}
+use Rattle.denied.specs.Denied.{on_line, and_then, on_lines, prefixes_of, taken, read_denied}
 use Rattle.denied.specs.Strings.{BitString, empty_string, leading, longer, Leads, Listed, string_at, StandsFor}
 use Rattle.denied.proofs.Laws.{prefix_fits, word_of}
 use Rattle.denied.proofs.Shape.{child_some, Follows, Shape, with_child, child_is, no_child, shape_listed, before, last, more_many, new, different_more, shape_more}

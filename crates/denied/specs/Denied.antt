@@ -2,7 +2,7 @@
 use Rattle.std.specs.Prelude.{ℕ, ◌≡◌, List, [], ◌∷◌, map, None, Some, Result, Ok, Err, ok_or}
 use Rattle.refusal.specs.declared.Refusal.{Refusal}
 use Rattle.refusal.specs.declared.Refusal.TheVariants.{BadLine, TooManyNodes}
-use Rattle.refusal.specs.Refusal.{number}
+use Rattle.refusal.specs.Refusal.{number, number_of}
 use Rattle.denied.specs.declared.tree.Tree.{Tree}
 use Rattle.denied.specs.Prefixes.{Line, lines_of, line_of}
 use Rattle.denied.specs.Tree.{empty_tree, with_prefix}
@@ -42,11 +42,7 @@ taken (Err refusal) old = reading (number refusal) 0 old
 unfoldable pub read_denied : (text old : List ℕ) → Reading
 read_denied text old = taken (on_lines empty_tree (prefixes_of text)) old
 
--- the number of a refusal, or 0
-abbrev pub number_of : {T : Type 0} → Result T Refusal → ℕ
-number_of (Ok value) = 0
-number_of (Err refusal) = number refusal
-
+-- how many nodes the tree has, 0 where the text was refused
 abbrev pub count_of : Result ℕ Refusal → ℕ
 count_of (Ok count) = count
 count_of (Err refusal) = 0

@@ -3,21 +3,17 @@ use crate::calling::{length_of, write_name};
 use crate::fields::{bytes, number, number_u8};
 use crate::printing::{Data, write_byte, write_line, write_message};
 use crate::vectors::vectors;
-use address::{Address, FiveTuple, TransportAddress};
+use address::FiveTuple;
 use interface::sending::what_to_send;
 use refusal::Refusal;
 use rules::answer::Outcome;
+use stun::values::NOBODY;
 
 // What an outcome shows of a datagram and a reply of eight bytes each.
 fn write_sent(rt: &impl Print, line: &[u8], outcome: Outcome) {
     write_name(rt, line);
     let data = what_to_send(outcome, b"datagram", b"response");
     let _ = print!(rt; "{}\n", Data(data));
-}
-
-fn nobody() -> TransportAddress {
-    let address = Address::V4(0);
-    TransportAddress { address, port: 0 }
 }
 
 // `R` name, number: a refusal; a number that is none's is a drop.
@@ -30,8 +26,8 @@ fn refused(rt: &impl Print, line: &[u8]) {
 // `S` name, len.
 fn to_client(rt: &impl Print, line: &[u8]) {
     let five_tuple = FiveTuple {
-        client: nobody(),
-        server: nobody(),
+        client: NOBODY,
+        server: NOBODY,
         protocol: 17,
     };
     let len = number(line, 2) as usize;
@@ -40,7 +36,7 @@ fn to_client(rt: &impl Print, line: &[u8]) {
 
 // `F` name, start, len.
 fn to_peer(rt: &impl Print, line: &[u8]) {
-    let peer = nobody();
+    let peer = NOBODY;
     let start = number(line, 2) as usize;
     let len = number(line, 3) as usize;
     write_sent(

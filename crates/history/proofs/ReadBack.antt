@@ -315,9 +315,9 @@ abbrev ReadableAct : (denied : List ℕ) → Call → List ℕ → List Slot →
 ReadableAct denied call s before (refuse refusal) = Unit
 ReadableAct denied call s before (accept next out) = Readable (fields_for denied call s before next.slots) (data_for call s) out
 
-abbrev slot_or_fresh : Change → Slot
-slot_or_fresh (keep out) = fresh_slot
-slot_or_fresh (write slot out) = slot
+abbrev slot_left : Change → Slot
+slot_left (keep out) = fresh_slot
+slot_left (write slot out) = slot
 
 left_kept : (slots : List Slot) (place : Option ℕ) (out : Out) → Left slots slots place (keep out)
 left_kept slots place out = record { wrote = λ slot out e. kept_not_written e; kept = λ out e. refl }
@@ -330,7 +330,7 @@ unfolding at_or
 done_readable denied call s st (Some k) (keep out) w h f = f st.slots (left_kept st.slots (Some k) out)
 done_readable denied call s st (Some k) (write slot out) w h f =
     f (set st.slots k slot) (record {
-      wrote = λ other out e. get_or-set_same st.slots k slot fresh_slot w ∙ ap slot_or_fresh e;
+      wrote = λ other out e. get_or-set_same st.slots k slot fresh_slot w ∙ ap slot_left e;
       kept = λ out e. kept_not_written (sym e);
     })
 done_readable denied call s st None (keep out) w h f = f st.slots (left_kept st.slots None out)

@@ -1,7 +1,7 @@
 // The refusals, in document 01's order.
 ghost use Rattle.std.specs.Prelude.{◌≡◌, ℕ};
 ghost use Rattle.interface.specs.Refusals.{refused_caller, refusal};
-ghost use Rattle.interface.specs.Inner.{number_or, number_of};
+ghost use Rattle.refusal.specs.Refusal.{number_or, number_of};
 
 use crate::incoming::Call;
 use refusal::Refusal;

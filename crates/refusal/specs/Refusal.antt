@@ -1,5 +1,5 @@
 -- The number of each refusal: document 01's 1 to 8, and request 2's 9 and 10.
-use Rattle.std.specs.Prelude.{ℕ, [], ◌∷◌, Option, Some, None}
+use Rattle.std.specs.Prelude.{ℕ, [], ◌∷◌, Option, Some, None, Result, Ok, Err}
 use Rattle.choice.specs.Choice.{lookup}
 use Rattle.refusal.specs.declared.Refusal.{Refusal}
 use Rattle.refusal.specs.declared.Refusal.TheVariants.{TimeBelowClock, TimeTooLate, ShortReply, LongDatagram, UnknownUser, NotSixtyFourSlots, NotUdp, ShortOutput, BadLine, TooManyNodes}
@@ -17,6 +17,15 @@ number NotUdp = 7
 number ShortOutput = 8
 number BadLine = 9
 number TooManyNodes = 10
+
+-- the number of the refusal that a check gave, or what later ones give
+abbrev pub number_or : {T : Type 0} → Result T Refusal → ℕ → ℕ
+number_or (Ok value) rest = rest
+number_or (Err refusal) rest = number refusal
+
+-- 0 is none
+abbrev pub number_of : {T : Type 0} → Result T Refusal → ℕ
+number_of result = number_or result 0
 
 -- the refusal of a number; 0 and what is above 10 are none
 abbrev pub numbered : ℕ → Option Refusal

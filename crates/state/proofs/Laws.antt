@@ -6,7 +6,7 @@ use mathlib.Core.List.{List}
 use lib.ListN.{length}
 use Rattle.std.specs.Prelude.{Option, Some, None, Result, Ok, Err}
 use Rattle.refusal.specs.declared.Refusal.{Refusal}
-use Rattle.refusal.specs.Refusal.{number, numbered}
+use Rattle.refusal.specs.Refusal.{number, numbered, number_of}
 use Rattle.refusal.proofs.Laws.{numbered_number, none_numbered}
 use Rattle.slot.specs.declared.Slot.{Slot}
 use Rattle.std.specs.Prelude.{Option, Some, None}
@@ -18,7 +18,6 @@ use Rattle.rules.specs.Change.{Out, keep, write, outcome_of, reply_after}
 use Rattle.interface.specs.declared.incoming.Call.{Call}
 use Rattle.interface.specs.declared.refusals.Lengths.{Lengths}
 use Rattle.interface.specs.Refusals.{lengths, refusal}
-use Rattle.interface.specs.Inner.{number_of}
 use Rattle.interface.proofs.Laws.{refusal_small}
 use Rattle.state.specs.declared.Bookkeeping.{Bookkeeping}
 use Rattle.state.specs.State.{State, state, clock_of}

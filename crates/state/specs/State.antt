@@ -4,7 +4,8 @@ use Rattle.refusal.specs.declared.Refusal.{Refusal}
 use Rattle.slot.specs.declared.Slot.{Slot}
 use Rattle.slot.specs.Slot.{fresh_slot}
 use Rattle.denied.specs.Tree.{none_denied}
-use Rattle.denied.specs.Denied.{read_denied, number_of, count_of}
+use Rattle.refusal.specs.Refusal.{number_of}
+use Rattle.denied.specs.Denied.{read_denied, count_of}
 use Rattle.state.specs.declared.Bookkeeping.{Bookkeeping}
 
 pub record State : Type 0 where
