@@ -54,6 +54,11 @@ pub transport_address_refl : (a : TransportAddress) → same_transport_address a
 unfolding same_transport_address
 transport_address_refl a = both_true _ _ (address_refl a.address) (eq-eqb a.port a.port refl)
 
+-- other ports of the clients are other 5-tuples
+pub other_client_port : (a b : FiveTuple) → (a.client.port ≡ b.client.port → ⊥) → same_five_tuple a b ≡ false
+unfolding same_five_tuple both
+other_client_port a b n = rw (← other_port a.client b.client n)
+
 pub five_tuple_same : (a b : FiveTuple) → same_five_tuple a b ≡ true → a ≡ b
 unfolding same_five_tuple
 five_tuple_same a b e =

@@ -126,7 +126,7 @@ pub fn allocate(
     let again = repeated(s, call, own);
     if let Err(code) = check_allocate(s, call, again.is_some(), capacity, own) {
         let five_tuple = call.five_tuple;
-        return respond_error(s, reply, five_tuple, Method::Allocate, code);
+        return respond_error(s, reply, five_tuple, Method::Allocate, code.number());
     }
     let seconds = granted(lifetime(s));
     if let Some(slot) = again {
@@ -190,7 +190,7 @@ pub fn refresh(s: &[u8], reply: &mut [u8], call: ClientCall, own: Option<&Slot>)
     let five_tuple = call.five_tuple;
     let was = match check_refresh(s, call, own) {
         Ok(was) => was,
-        Err(code) => return respond_error(s, reply, five_tuple, Method::Refresh, code),
+        Err(code) => return respond_error(s, reply, five_tuple, Method::Refresh, code.number()),
     };
     let seconds = granted_refresh(lifetime(s));
     let slot = refreshed(call.time, seconds, was);

@@ -24,24 +24,18 @@ fn write_reading(rt: &impl Print, line: &[u8], read: Result<usize, Refusal>) {
 }
 
 // The first size bytes are the text.
-fn read_first(rt: &impl Print, held: Held, line: &[u8], bytes: &[u8], size: usize) -> Held {
-    if bytes.len() < size {
-        return held;
-    }
-    let mut bookkeeping = held.bookkeeping;
-    let read = deny(&mut bookkeeping, &bytes[..size]);
-    write_reading(rt, line, read);
-    Held {
-        bookkeeping,
-        ..held
+fn read_first(rt: &impl Print, held: &mut Held, line: &[u8], bytes: &[u8], size: usize) {
+    if let Some(text) = bytes.get(..size) {
+        let read = deny(&mut held.bookkeeping, text);
+        write_reading(rt, line, read);
     }
 }
 
 // `D` name, bytes: a text is read.
-pub(crate) fn read(rt: &impl Print, held: Held, line: &[u8]) -> Held {
+pub(crate) fn read(rt: &impl Print, held: &mut Held, line: &[u8]) {
     let mut text = [0u8; 1600];
     let size = bytes(line, 2, &mut text);
-    read_first(rt, held, line, &text, size)
+    read_first(rt, held, line, &text, size);
 }
 
 // `G` place, number: a number put into the tree, three for each node; from place 1,536 on, in every place.
@@ -64,10 +58,8 @@ pub(crate) fn with_number(held: Held, line: &[u8]) -> Held {
     }
 }
 
-fn write_answer(rt: &impl Print, held: Held, a: u32) {
-    let kept = held.bookkeeping;
-    let nodes = kept.denied;
-    if is_denied(&nodes, a) {
+fn write_answer(rt: &impl Print, held: &Held, a: u32) {
+    if is_denied(&held.bookkeeping.denied, a) {
         write(rt, b" denied\n");
     } else {
         write(rt, b" not denied\n");
@@ -75,7 +67,7 @@ fn write_answer(rt: &impl Print, held: Held, a: u32) {
 }
 
 // `I` name, address: whether it is denied.
-pub(crate) fn ask(rt: &impl Print, held: Held, line: &[u8]) {
+pub(crate) fn ask(rt: &impl Print, held: &Held, line: &[u8]) {
     write_name(rt, line);
     match address(line, 2) {
         Address::V4(a) => write_answer(rt, held, a),

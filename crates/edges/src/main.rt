@@ -44,12 +44,12 @@ struct State {
 }
 
 // `Q` and `P` make a call, `D` reads a text; the other letters make a table.
-fn changed(rt: &impl Print, held: Held, setting: Setting, line: &[u8]) -> Held {
+fn change(rt: &impl Print, held: &mut Held, setting: Setting, line: &[u8]) {
     match fields::letter(line) {
-        b'Q' => calling::from_client(rt, held, setting, line),
-        b'P' => calling::from_peer(rt, held, setting, line),
+        b'Q' => *held = calling::from_client(rt, *held, setting, line),
+        b'P' => *held = calling::from_peer(rt, *held, setting, line),
         b'D' => denials::read(rt, held, line),
-        letter => tables::made(held, letter, line),
+        letter => *held = tables::made(*held, letter, line),
     }
 }
 
@@ -57,32 +57,21 @@ fn changed(rt: &impl Print, held: Held, setting: Setting, line: &[u8]) -> Held {
 fn show(rt: &impl Print, state: &State, line: &[u8]) {
     match fields::letter(line) {
         b'L' => listings::show(rt, &state.held, state.setting.slots, line),
-        b'I' => denials::ask(rt, state.held, line),
+        b'I' => denials::ask(rt, &state.held, line),
         letter => showing::show(rt, letter, line),
     }
 }
 
 // `K` keeps the relay as it is, `B` goes back to it, `W` sets what calls bring besides.
-fn after(rt: &impl Print, state: State, line: &[u8]) -> State {
+// The state is changed where it lies: it holds two tables.
+fn go_on(rt: &impl Print, state: &mut State, line: &[u8]) {
     match fields::letter(line) {
-        b'K' => State {
-            kept: state.held,
-            ..state
-        },
-        b'B' => State {
-            held: state.kept,
-            ..state
-        },
-        b'W' => State {
-            setting: calling::read_setting(line),
-            ..state
-        },
+        b'K' => state.kept = state.held,
+        b'B' => state.held = state.kept,
+        b'W' => state.setting = calling::read_setting(line),
         _ => {
-            show(rt, &state, line);
-            State {
-                held: changed(rt, state.held, state.setting, line),
-                ..state
-            }
+            show(rt, state, line);
+            change(rt, &mut state.held, state.setting, line);
         }
     }
 }
@@ -95,7 +84,7 @@ fn run(rt: &impl Print, text: &[u8]) {
         setting: calling::usual(),
     };
     for line in text.split(|b| *b == NEWLINE) {
-        state = after(rt, state, line);
+        go_on(rt, &mut state, line);
     }
 }
 

@@ -148,8 +148,8 @@ pub(crate) fn write_outcome<'a>(
     reply: &'a [u8],
 ) {
     match outcome {
-        Outcome::Refused(refusal) => {
-            let _ = print!(rt; "R {}", refusal.number());
+        Outcome::Refused(number) => {
+            let _ = print!(rt; "R {number}");
         }
         Outcome::DroppedLapsed => write(rt, b"D lapsed"),
         Outcome::DroppedNever => write(rt, b"D never"),

@@ -5,7 +5,6 @@ use crate::printing::{Data, write_byte, write_line, write_message};
 use crate::vectors::vectors;
 use address::FiveTuple;
 use interface::sending::what_to_send;
-use refusal::Refusal;
 use rules::answer::Outcome;
 use stun::values::NOBODY;
 
@@ -16,10 +15,12 @@ fn write_sent(rt: &impl Print, line: &[u8], outcome: Outcome) {
     let _ = print!(rt; "{}\n", Data(data));
 }
 
-// `R` name, number: a refusal; a number that is none's is a drop.
+// `R` name, number: a refusal; 0 is a drop.
 fn refused(rt: &impl Print, line: &[u8]) {
-    let refusal = Refusal::of(number_u8(line, 2));
-    let outcome = refusal.map_or(Outcome::DroppedOther, Outcome::Refused);
+    let outcome = match number_u8(line, 2) {
+        0 => Outcome::DroppedOther,
+        number => Outcome::Refused(number),
+    };
     write_sent(rt, line, outcome);
 }
 

@@ -6,7 +6,6 @@ use mathlib.Core.List.{List, []}
 use native.Mathlib.Omega.{arith}
 use Rattle.address.specs.declared.Address.TheVariants.{V4}
 use Rattle.address.specs.declared.FiveTuple.{FiveTuple}
-use Rattle.refusal.specs.declared.Refusal.{Refusal}
 use Rattle.rules.specs.declared.answer.Outcome.TheVariants.{Refused, DroppedLapsed, DroppedNever, DroppedOther}
 use Rattle.rules.specs.Change.{permission_lapsed, never_permitted, other_cause}
 use Rattle.table.specs.Table.{slot_at}
@@ -22,7 +21,7 @@ use Rattle.history.proofs.Demand.{met}
 
 -- ---- One datagram, in a call that is not refused
 module _ (st : State) (past : List Counted) (I : AccountsFor past st) (a : Arrival) (R x t : ℕ) (from : FromAddress a R (V4 x) t)
-    (nr : (refusal : Refusal) → outcome st a ≢ Refused refusal) where
+    (nr : (number : ℕ) → outcome st a ≢ Refused number) where
   -- the live slot with the port is C's
   held_by : (C : FiveTuple) → HoldsPort past C R t → clock_of st ≤ t → (k : ℕ) → Live t (slot_at st.slots k) → (slot_at st.slots k).allocation.port ≡ R
       → Live (clock_of st) (slot_at st.slots k) × ((slot_at st.slots k).allocation.five_tuple ≡ C)

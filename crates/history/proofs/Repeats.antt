@@ -36,6 +36,7 @@ use Rattle.interface.specs.declared.incoming.Call.{Call}
 use Rattle.interface.specs.declared.incoming.Call.TheVariants.{Client, Peer}
 use Rattle.interface.specs.declared.incoming.FromClient.{FromClient}
 use Rattle.interface.specs.declared.refusals.Lengths.{Lengths}
+use Rattle.refusal.specs.Refusal.{number}
 use Rattle.interface.specs.Refusals.{time_of, lengths, refusal}
 use Rattle.state.specs.State.{State, empty, clock_of, at_time}
 use Rattle.state.specs.Outcomes.{Act, refuse, accept, outcome_of, reply_after, state_after}
@@ -111,7 +112,7 @@ module _ (call : FromClient) (s : List ℕ) {C : FiveTuple} {port t seconds : �
   read_of (Some m) e = message_of m e
 
   outcome_of_lem : (o : Outcome) (reply : List ℕ) → counts_by (Client call) s o reply ≡ gave C port t seconds → Of call s C t
-  outcome_of_lem (Refused refusal) reply e = never refl e
+  outcome_of_lem (Refused number) reply e = never refl e
   outcome_of_lem DroppedLapsed reply e = never refl e
   outcome_of_lem DroppedNever reply e = never refl e
   outcome_of_lem DroppedOther reply e = never refl e
@@ -221,7 +222,7 @@ module _ (st : State) (past : List Counted) (I : AccountsFor past st) (typed : S
 
   answered_by : (a : Arrival) → Answers a.call a.datagram a.reply (act st a.call a.datagram (length a.reply))
   answered_by a =
-      acted (Answers a.call a.datagram a.reply) st a.call a.datagram (length a.reply) (λ number q. never (ap is_allocation (refused_counts a.call a.datagram number a.reply)) q)
+      acted (Answers a.call a.datagram a.reply) st a.call a.datagram (length a.reply) (λ r q. never (ap is_allocation (refused_counts a.call a.datagram (number r) a.reply)) q)
       (λ e q. let w = not_refused (clock_of st) st.slots a.datagram a.reply a.call e in
       call_answered a.call a.datagram a.reply a.call_fits a.bytes w.not_before q)
 

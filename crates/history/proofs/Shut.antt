@@ -8,7 +8,7 @@ use native.Mathlib.Nat.{le_refl, le_trans}
 use Rattle.address.specs.declared.Address.{Address}
 use Rattle.address.specs.declared.Address.TheVariants.{V4}
 use Rattle.address.specs.declared.FiveTuple.{FiveTuple}
-use Rattle.refusal.specs.declared.Refusal.{Refusal}
+use Rattle.refusal.specs.Refusal.{number}
 use Rattle.rules.specs.declared.answer.Outcome.TheVariants.{Refused}
 use Rattle.state.specs.State.{State, clock_of}
 use Rattle.interface.specs.Refusals.{time_of}
@@ -47,8 +47,8 @@ allowed_before (nothing ∷ h) C a u t le x = allowed_before h C a u t le x
 -- a Refresh is accepted only while the last lifetime lasts
 refresh_lasted : (st : State) (a : Arrival) (past : List Counted) → AccountsFor past st → (x : Act) → Moved st a x → (C : FiveTuple) (s n : ℕ)
     → without_repeats past (counts_by a.call a.datagram (outcome_of x) (reply_after a.reply x)) ≡ kept C s n → (clock_of st ≤ s) × Granted past C s
-refresh_lasted st a past I x (refused number e) C s n q =
-    let r = refused_counts a.call a.datagram number a.reply in
+refresh_lasted st a past I x (refused told e) C s n q =
+    let r = refused_counts a.call a.datagram (number told) a.reply in
     let k : nothing ≡ kept C s n = sym (ap (without_repeats past) r) ∙ rw e at q in
     let z : ◌≡◌ {A = ℕ} 0 1 = cc in
     let y : ⊥ = omega arith in
@@ -68,7 +68,7 @@ refresh_lasted st a past I x (changed le clock c) C s n q = go (rw q at (c past 
     go (e, inr c) = own e c.k c.live c.mine
 
 clock_rises : (st : State) (a : Arrival) (x : Act) → Moved st a x → clock_of st ≤ clock_of (state_after st x)
-clock_rises st a x (refused number e) = rw e (le_refl _)
+clock_rises st a x (refused told e) = rw e (le_refl _)
 clock_rises st a x (changed le clock c) = rw clock le
 
 -- ---- The calls since then
@@ -122,11 +122,11 @@ module _ (C : FiveTuple) (R : ℕ) (a : Address) where
 
 -- the clock before and after a peer's datagram that is not refused
 peer_clock : (st after : State) (e : Event) (R : ℕ) (a : Address) (t : ℕ) → Happened st e after → FromAddress e.arrival R a t
-    → ((refusal : Refusal) → e.outcome ≢ Refused refusal) → (clock_of st ≤ t) × (t ≤ clock_of after)
+    → ((number : ℕ) → e.outcome ≢ Refused number) → (clock_of st ≤ t) × (t ≤ clock_of after)
 peer_clock st after e R a t h from nr = go (acts st e.arrival) (moves st e.arrival) h.outcome_is h.state_is
   where
     go : (x : Act) → Moved (met st e.arrival) e.arrival x → e.outcome ≡ outcome_of x → after ≡ state_after (met st e.arrival) x → (clock_of st ≤ t) × (t ≤ clock_of after)
-    go x (refused number q) o s = absurd (nr number (o ∙ ap outcome_of q))
+    go x (refused told q) o s = absurd (nr (number told) (o ∙ ap outcome_of q))
     go x (changed le clock c) o s =
         let time : time_of e.arrival.call ≡ t = rw from.2 in
         let stays : clock_of after ≡ t = rw s (clock ∙ time) in

@@ -21,6 +21,7 @@ use Rattle.slot.specs.Slot.{fresh_slot, permission_state, holds_port}
 use Rattle.table.specs.Table.{slot_at, in_slot}
 use Rattle.rules.specs.declared.answer.Outcome.{Outcome}
 use Rattle.refusal.specs.declared.Refusal.{Refusal}
+use Rattle.refusal.specs.Refusal.{number}
 use Rattle.rules.specs.declared.answer.Outcome.TheVariants.{Refused, DroppedLapsed, DroppedNever, DroppedOther, ToClient}
 use Rattle.rules.specs.Change as rules
 use Rattle.rules.specs.Change.{Cause, permission_lapsed, never_permitted, other_cause, dropped_for, Out, to_client, Change, keep, write}
@@ -69,9 +70,9 @@ accounts_empty = record {
 }
 
 -- ---- One call
-pub refused_counts : (call : Call) (s : List ℕ) (refusal : Refusal) (reply : List ℕ) → counts_by call s (Refused refusal) reply ≡ nothing
-refused_counts (Client call) s refusal reply = refl
-refused_counts (Peer call) s refusal reply = refl
+pub refused_counts : (call : Call) (s : List ℕ) (number : ℕ) (reply : List ℕ) → counts_by call s (Refused number) reply ≡ nothing
+refused_counts (Client call) s number reply = refl
+refused_counts (Peer call) s number reply = refl
 
 -- a call that is not refused sets the clock
 clock_accepted : (st : State) (call : Call) (s : List ℕ) → clock_of (state_after st (accepted st call s)) ≡ time_of call
@@ -136,7 +137,7 @@ pub data Moved (st : State) (a : Arrival) (x : Act) : Type 0 where
 
 pub moves : (st : State) (a : Arrival) → Moved (met st a) a (acts st a)
 moves st a =
-    acted (Moved (met st a) a) (met st a) a.call a.datagram (length a.reply) (λ number. refused number refl)
+    acted (Moved (met st a) a) (met st a) a.call a.datagram (length a.reply) (λ r. refused r refl)
     (λ e. let w = not_refused (clock_of st) st.slots a.datagram a.reply a.call e in
     changed w.not_before (clock_accepted (met st a) a.call a.datagram)
     (made a.call (met st a) a.datagram a.reply w.sixty_four a.call_fits a.bytes))
@@ -147,8 +148,8 @@ after_call : (st : State) (a : Arrival) (past : List Counted) → AccountsFor pa
 after_call st a past I = go (acts st a) (moves st a)
   where
     go : (x : Act) → Moved (met st a) a x → AccountsFor (without_repeats past (counts_by a.call a.datagram (outcome_of x) (reply_after a.reply x)) ∷ past) (state_after (met st a) x)
-    go x (refused number e) =
-        rw (e, refused_counts a.call a.datagram number a.reply) (keep-accounts _ _ _ _ past nothing (le_refl _) I (quiet _ _))
+    go x (refused r e) =
+        rw (e, refused_counts a.call a.datagram (number r) a.reply) (keep-accounts _ _ _ _ past nothing (le_refl _) I (quiet _ _))
     go x (changed le clock c) = rw clock (keep-accounts _ (time_of a.call) _ _ past _ le I (c past (accounts_later _ _ _ past le I)))
 
 -- ---- Every list of calls
@@ -210,12 +211,12 @@ module _ (l : List Slot) (t x p R : ℕ) (id : TransactionId) (s : List ℕ) whe
 
 -- in a call that is not refused
 module _ (st : State) (past : List Counted) (I : AccountsFor past st) (a : Arrival) (R x t : ℕ) (from : FromAddress a R (V4 x) t)
-    (nr : (refusal : Refusal) → outcome st a ≢ Refused refusal) where
+    (nr : (number : ℕ) → outcome st a ≢ Refused number) where
   pub reached : (clock_of st ≤ t) × Verdict st.slots t R (V4 x) (outcome st a)
   reached =
       rw from.2
-      (acted (λ (it : Act). ((r : Refusal) → outcome_of it ≢ Refused r) → (clock_of st ≤ t) × Verdict st.slots t R (V4 x) (outcome_of it)) (met st a) c a.datagram (length a.reply)
-      (λ number none. absurd (none number refl))
+      (acted (λ (it : Act). ((n : ℕ) → outcome_of it ≢ Refused n) → (clock_of st ≤ t) × Verdict st.slots t R (V4 x) (outcome_of it)) (met st a) c a.datagram (length a.reply)
+      (λ r none. absurd (none (number r) refl))
       (λ e none. let le : clock_of st ≤ t = (not_refused (clock_of st) st.slots a.datagram a.reply c e).not_before in
       (le, rw (peer_stays _ (met st a) a.datagram) (arrives st.slots t x from.0 R from.1 a.datagram)))
       (rw from.2 at nr))
@@ -281,11 +282,11 @@ unfolding relay_from_peer peer_cause any unless_dropped
 ipv6_out t source id s true slot e = rw e
 ipv6_out t source id s false slot e = refl
 
-pub ipv6_dropped : (st : State) (a : Arrival) (R p q r w t : ℕ) → FromAddress a R (V6 p q r w) t → ((refusal : Refusal) → outcome st a ≢ Refused refusal) → outcome st a ≡ DroppedOther
+pub ipv6_dropped : (st : State) (a : Arrival) (R p q r w t : ℕ) → FromAddress a R (V6 p q r w) t → ((number : ℕ) → outcome st a ≢ Refused number) → outcome st a ≡ DroppedOther
 unfolding peer_out
 ipv6_dropped st a R p q r w t from nr =
     rw from.2
-    (acted (λ (it : Act). ((r : Refusal) → outcome_of it ≢ Refused r) → outcome_of it ≡ DroppedOther) (met st a) (Peer call) a.datagram (length a.reply) (λ number none. absurd (none number refl))
+    (acted (λ (it : Act). ((n : ℕ) → outcome_of it ≢ Refused n) → outcome_of it ≡ DroppedOther) (met st a) (Peer call) a.datagram (length a.reply) (λ r none. absurd (none (number r) refl))
     (λ e none. rw (peer_stays call (met st a) a.datagram) (ipv6_out t call.source from.1 a.datagram (has found) (at_or fresh_slot found st.slots) refl)) (rw from.2 at nr))
   where
     call : FromPeer

@@ -103,7 +103,7 @@ read_as call s (Some m) = counts_as call s m
 
 -- 'accepted is one whose outcome is a success response', read off the reply's bytes by the clients' reader
 abbrev pub counts_by : Call → List ℕ → Outcome → List ℕ → Counted
-counts_by (Client call) s (Refused refusal) reply = nothing
+counts_by (Client call) s (Refused number) reply = nothing
 counts_by (Client call) s DroppedLapsed reply = nothing
 counts_by (Client call) s DroppedNever reply = nothing
 counts_by (Client call) s DroppedOther reply = nothing

@@ -10,7 +10,6 @@ use Rattle.slot.specs.declared.Permission.{Permission}
 use Rattle.slot.specs.declared.Channel.{Channel}
 use Rattle.slot.specs.Slot.{fresh_permission, fresh_channel}
 use Rattle.table.specs.Table.{slot_at}
-use Rattle.refusal.specs.declared.Refusal.{Refusal}
 use Rattle.rules.specs.declared.answer.Outcome.TheVariants.{Refused, ToClient}
 use Rattle.rules.specs.Change.{Cause, dropped_for}
 use Rattle.interface.specs.declared.incoming.Call.TheVariants.{Peer}
@@ -113,7 +112,7 @@ pub record Comes (list before : List Event) (e : Event) (R : ℕ) (a : Address) 
   pub after : List Event
   pub split : list ≡ before ++ e ∷ after
   pub from : FromAddress e.arrival R a t
-  pub not_refused : (refusal : Refusal) → e.outcome ≢ Refused refusal
+  pub not_refused : (number : ℕ) → e.outcome ≢ Refused number
 
 -- 'To C: the client outcome with 5-tuple C'
 abbrev pub To : FiveTuple → Event → Type 0

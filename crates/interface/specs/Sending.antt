@@ -7,7 +7,7 @@ use Rattle.rules.specs.declared.answer.Outcome.TheVariants.{Refused, DroppedLaps
 
 -- 'To the client': the first n bytes of the reply; 'To a peer': the payload, where it lies in the datagram
 abbrev pub sent : Outcome → List ℕ → List ℕ → List ℕ
-sent (Refused refusal) datagram reply = []
+sent (Refused number) datagram reply = []
 sent DroppedLapsed datagram reply = []
 sent DroppedNever datagram reply = []
 sent DroppedOther datagram reply = []

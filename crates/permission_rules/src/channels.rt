@@ -71,7 +71,7 @@ pub fn channel_bind(
     let five_tuple = call.five_tuple;
     let slot = match bound(s, call, denied, own) {
         Ok(slot) => slot,
-        Err(code) => return respond_error(s, reply, five_tuple, Method::ChannelBind, code),
+        Err(code) => return respond_error(s, reply, five_tuple, Method::ChannelBind, code.number()),
     };
     let len = put_bare_success(reply, Method::ChannelBind, transaction_id(s));
     let outcome = Outcome::ToClient { five_tuple, len };

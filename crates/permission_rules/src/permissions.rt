@@ -95,7 +95,13 @@ pub fn create_permission(
     let five_tuple = call.five_tuple;
     let slot = match permitted(s, call, denied, own) {
         Ok(slot) => slot,
-        Err(code) => return respond_error(s, reply, five_tuple, Method::CreatePermission, code),
+        Err(code) => return respond_error(
+            s,
+            reply,
+            five_tuple,
+            Method::CreatePermission,
+            code.number(),
+        ),
     };
     let len = put_bare_success(reply, Method::CreatePermission, transaction_id(s));
     let outcome = Outcome::ToClient { five_tuple, len };

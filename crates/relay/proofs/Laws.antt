@@ -10,7 +10,7 @@ use borrow.Author.Tests.{eqb-true, ltb-false, not-false}
 use Rattle.std.specs.Prelude.{IsSome}
 use Rattle.choice.specs.Choice.{pick}
 use Rattle.slot.specs.declared.Slot.{Slot}
-use Rattle.std.specs.Prelude.{Option}
+use Rattle.std.specs.Prelude.{Option, Some, None}
 use Rattle.slot.specs.Search.{find, has}
 use Rattle.slot.specs.Slot.{holds, holds_port}
 use Rattle.table.specs.Table.{in_slot, lapsed}
@@ -36,9 +36,9 @@ use Rattle.state.specs.Outcomes.{Does}
 use Rattle.interface.specs.Refusals.{time_of, lengths, refusal}
 use Rattle.decisions.specs.Decisions.{names_denied, on_asked, decided}
 use Rattle.state.specs.Step.{done, accepted}
-use Rattle.decisions.specs.Inner.{Ready, asked_for, wanted_by, saw, place_for, place_in, unwritten, Lent, Owned}
+use Rattle.decisions.specs.Inner.{Ready, asked_for, asking_of, wanted_by, saw, place_for, place_in, unwritten, Lent, Owned}
 use Rattle.std.specs.Borrow.{Bor}
-use Rattle.relay.specs.Inner.{Saw, LookedFor, WroteBack, Answered}
+use Rattle.relay.specs.Inner.{Begun, Saw, LookedFor, WroteBack, Answered, DoesAccepted}
 use Rattle.decisions.proofs.Laws.{decided-writes}
 use Rattle.state.proofs.Laws.{kept_done, written-done, does}
 
@@ -182,6 +182,27 @@ module _ (slots : List Slot) (call : Call) (s reply : List ℕ) (seen : Seen) {r
           (b.outcome_is ∙ w.gives.outcome_is ∙ ap (λ (x : Change). outcome_of (out_of x)) e) refl
           (w.gives.reply_is ∙ ap (λ (x : Change). reply_after reply (out_of x)) e))
 
+-- a slot is written back, or none
+module _ (slots : List Slot) (seen : Seen) (answer : Answer) {outcome : Outcome} (o : outcome ≡ answer.outcome) where
+  pub none_back : answer.written ≡ None → WroteBack seen answer outcome slots slots
+  none_back n = record { outcome_is = o; slots_are = rw n }
+
+  pub one_back : {k : ℕ} {slot : Slot} {slots' : List Slot} → answer.written ≡ Some slot → k ≡ place_in seen → slots' ≡ set slots k slot
+      → WroteBack seen answer outcome slots slots'
+  one_back {slot} y p g = record { outcome_is = o; slots_are = rw y (g ∙ ap (λ (j : ℕ). set slots j slot) p) }
+
 -- data writes none
 pub data_back : (slots : List Slot) (seen : Seen) {outcome : Outcome} → WroteBack seen (unwritten outcome) outcome slots slots
 data_back slots seen = record { outcome_is = refl; slots_are = refl }
+
+-- the clock was set, and then it was read what the call asks
+pub begun : {kept kept' : Bookkeeping} {call : Call} {s : List ℕ} {time : ℕ} {asking : Asking} → time ≡ time_of call → kept' ≡ at_clock time kept → asking ≡ asking_of kept'.denied call s
+    → Begun kept call s asking kept'
+begun {kept} {kept'} {call} {s} t k a = record { asking_is = a ∙ ap (λ (b : Bookkeeping). asking_of b.denied call s) k; kept_is = k ∙ ap (λ (n : ℕ). at_clock n kept) t }
+
+-- a call that was answered by what is asked, with the clock as it was set
+pub begun-answered : {asking : Asking} {slots : List Slot} {kept kept' : Bookkeeping} {call : Call} {s : List ℕ} {outcome : Outcome} {slots' : List Slot} {reply reply' : List ℕ} → Begun kept call s asking kept'
+    → Answered asking.denied slots call s outcome slots' reply reply'
+    → DoesAccepted slots kept call s outcome slots' kept' reply reply'
+begun-answered {asking} {slots} {kept} {kept'} {call} {s} {outcome} {slots'} {reply} {reply'} b w =
+    subst (λ (k : Bookkeeping). DoesAccepted slots kept call s outcome slots' k reply reply') (sym b.kept_is) (w.does kept (sym (ap (λ (x : Asking). x.denied) b.asking_is)))

@@ -13,7 +13,12 @@ use Rattle.state.specs.State.{state, at_clock}
 use Rattle.state.specs.Outcomes.{Does}
 use Rattle.interface.specs.Refusals.{time_of}
 use Rattle.state.specs.Step.{accepted}
-use Rattle.decisions.specs.Inner.{asked_for, wanted_by, place_in}
+use Rattle.decisions.specs.Inner.{asked_for, asking_of, wanted_by, place_in}
+
+-- a call that is not refused has begun: the clock is set, and it asks this
+pub record Begun (kept : Bookkeeping) (call : Call) (datagram : List ℕ) (asking : Asking) (kept' : Bookkeeping) : Type 0 where
+  pub asking_is : asking ≡ asking_of kept.denied call datagram
+  pub kept_is : kept' ≡ at_clock (time_of call) kept
 
 -- what the look over the slots says for a call
 pub record Saw (slots : List Slot) (call : Call) (datagram : List ℕ) (seen : Seen) : Type 0 where

@@ -103,7 +103,7 @@ pub fn relay_datagram(
         reply: reply.len(),
     };
     if let Err(refusal) = refusal(bookkeeping.clock, lengths, call) {
-        return Outcome::Refused(refusal);
+        return Outcome::Refused(refusal.number());
     }
     accept_call(slots, bookkeeping, call, datagram, reply)
 }

@@ -1,13 +1,11 @@
 // What a call gives back, and the error response.
 ghost use Rattle.std.specs.Prelude.{◌≡◌, ◌≤◌, length};
 ghost use Rattle.rules.specs.Change.{error_message, keep, to_client};
-ghost use Rattle.rules.specs.Codes.{number};
 ghost use Rattle.rules.specs.Inner.{Answers};
 
 use crate::codes::ErrorCode;
 use address::{FiveTuple, TransportAddress};
 use messages::{put_error_response, put_unknown_response};
-use refusal::Refusal;
 use slot::Slot;
 use stun::kinds::Method;
 use stun::message::unknown_types;
@@ -15,7 +13,8 @@ use stun::values::transaction_id;
 
 #[derive(Clone, Copy)]
 pub enum Outcome {
-    Refused(Refusal),
+    // The number of the refusal. A number and no `Refusal`: `what_to_send` and `put_answer` take any.
+    Refused(u8),
     // A drop has one of three causes: a missing permission alone, which has lapsed or never was; or another.
     DroppedLapsed,
     DroppedNever,
@@ -41,19 +40,19 @@ pub struct Answer {
     pub written: Option<Slot>,
 }
 
-// The error response; no slot is written.
+// The error response, of any code; no slot is written.
 pub fn respond_error(
     s: &[u8],
     reply: &mut [u8],
     five_tuple: FiveTuple,
     method: Method,
-    code: ErrorCode,
+    code: u16,
 ) -> Answer
-    requires { (20 ≤ length s.now) × (1536 ≤ length reply.old) }
-    ensures { Answers (keep (to_client five_tuple (error_message method s.now (number code)))) reply.old reply.new result }
+    requires { (20 ≤ length s.now) × (1536 ≤ length reply.old) × (code ≤ 699) }
+    ensures { Answers (keep (to_client five_tuple (error_message method s.now code))) reply.old reply.new result }
 {
     let id = transaction_id(s);
-    if code == ErrorCode::UnknownAttribute {
+    if code == ErrorCode::UnknownAttribute.number() {
         let unknown = unknown_types(s);
         let types = &unknown.types[..unknown.count];
         let len = put_unknown_response(reply, method, id, types);
@@ -62,7 +61,7 @@ pub fn respond_error(
             written: None,
         };
     }
-    let len = put_error_response(reply, method, id, code.number());
+    let len = put_error_response(reply, method, id, code);
     Answer {
         outcome: Outcome::ToClient { five_tuple, len },
         written: None,

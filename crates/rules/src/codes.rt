@@ -1,7 +1,7 @@
 // The error codes of RFC 8489 and RFC 8656 that the rules give, and the check that gives one.
-ghost use Rattle.std.specs.Prelude.{◌≡◌, ℕ};
-ghost use Rattle.rules.specs.Change.{check};
-ghost use Rattle.rules.specs.Codes.{number, code_or};
+ghost use Rattle.std.specs.Prelude.{◌≡◌, ◌≤◌, Ok, Err};
+ghost use Rattle.choice.specs.Choice.{pick};
+ghost use Rattle.rules.specs.Codes.{number};
 
 #[derive(Clone, Copy, PartialEq, Eq)]
 pub enum ErrorCode {
@@ -20,7 +20,8 @@ pub enum ErrorCode {
 
 impl ErrorCode {
     pub fn number(self) -> u16
-        ensures { result ≡ number self }
+        ensures is { result ≡ number self }
+        ensures small { result ≤ 699 }
     {
         match self {
             ErrorCode::BadRequest => 400,
@@ -38,10 +39,9 @@ impl ErrorCode {
     }
 }
 
-// The code where the test holds; a chain of checks ends with the first.
-#[tactic(auto, unfolding(crate::specs::Change::check))]
-pub fn check(bad: bool, code: ErrorCode) -> Result<(), ErrorCode>
-    ensures { (rest : ℕ) → code_or result rest ≡ check bad (number code) rest }
+// The code, of any type, where the test holds; a chain of checks ends with the first.
+pub fn check<C: Copy>(bad: bool, code: C) -> Result<(), C>
+    ensures { result ≡ pick bad (Err code) (Ok tt) }
 {
     if bad { Err(code) } else { Ok(()) }
 }

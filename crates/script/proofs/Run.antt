@@ -1,7 +1,7 @@
 -- The laws of answering a line.
 use Prim.Native.Nat.{ℕ, zero, suc, ◌+◌, ◌-◌, ◌<◌, ◌≤◌}
 use mathlib.Core.Path.{◌≡◌, refl, sym, ap, ◌∙◌, subst}
-use mathlib.Core.Bool.{Bool, true, false}
+use mathlib.Core.Bool.{Bool, true, false, false≢true}
 use mathlib.Core.List.{List, [], ◌∷◌, ◌++◌}
 use native.Mathlib.Omega.{arith}
 use mathlib.Core.Logic.{inl, inr}
@@ -26,10 +26,26 @@ use Rattle.lines.specs.declared.Request.{Request}
 use Rattle.script.specs.Answers.{answer_of, bad_answer}
 use Rattle.lines.specs.Lines.{Line, bad, asks, line_of}
 use Rattle.lines.specs.Inner.{Reads}
-use Rattle.script.specs.Inner.{Called}
+use Rattle.script.specs.Inner.{is_to_peer, Called}
 use Rattle.script.specs.Run.{shown, answer_to, state_to, line_in, Runs}
 
 -- ---- What an outcome sends is a part of one of the two buffers
+
+pub sent_to_peer : (outcome : Outcome) (datagram reply : List ℕ) → is_to_peer outcome ≡ true → sent outcome datagram datagram ≡ sent outcome datagram reply
+sent_to_peer (Refused number) datagram reply e = refl
+sent_to_peer DroppedLapsed datagram reply e = refl
+sent_to_peer DroppedNever datagram reply e = refl
+sent_to_peer DroppedOther datagram reply e = refl
+sent_to_peer (ToClient fiveTuple len) datagram reply e = absurd (false≢true e)
+sent_to_peer (ToPeer port peer start len) datagram reply e = refl
+
+pub sent_else : (outcome : Outcome) (datagram reply : List ℕ) → is_to_peer outcome ≡ false → sent outcome reply reply ≡ sent outcome datagram reply
+sent_else (Refused number) datagram reply e = refl
+sent_else DroppedLapsed datagram reply e = refl
+sent_else DroppedNever datagram reply e = refl
+sent_else DroppedOther datagram reply e = refl
+sent_else (ToClient fiveTuple len) datagram reply e = refl
+sent_else (ToPeer port peer start len) datagram reply e = absurd (false≢true (sym e))
 
 picked_short : (b : Bool) (l : List ℕ) {n : ℕ} → length l ≤ n → length (pick b l []) ≤ n
 picked_short true l h = h
@@ -43,7 +59,7 @@ take_short (suc k) (x ∷ l) {n = suc n} h = let r = take_short k l {n = n} (ome
 
 pub sent_short : (outcome : Outcome) (datagram reply : List ℕ) {n : ℕ} → length datagram ≤ n → length reply ≤ n → length (sent outcome datagram reply) ≤ n
 unfolding part_of
-sent_short (Refused refusal) datagram reply h k = omega arith
+sent_short (Refused number) datagram reply h k = omega arith
 sent_short DroppedLapsed datagram reply h k = omega arith
 sent_short DroppedNever datagram reply h k = omega arith
 sent_short DroppedOther datagram reply h k = omega arith

@@ -2,7 +2,6 @@
 -- port, hex; `E` where a line isn't of these forms'; and request 3: '`D` in the call program gains a field: `lapsed`, `never` or `other`.'
 use Rattle.std.specs.Prelude.{ℕ, List, [], ◌∷◌}
 use Rattle.address.specs.declared.TransportAddress.{TransportAddress}
-use Rattle.refusal.specs.Refusal.{number}
 use Rattle.rules.specs.declared.answer.Outcome.{Outcome}
 use Rattle.rules.specs.declared.answer.Outcome.TheVariants.{Refused, DroppedLapsed, DroppedNever, DroppedOther, ToClient, ToPeer}
 use Rattle.text.specs.Text.{line_text, decimal, address_text, hex_bytes}
@@ -13,7 +12,7 @@ sent_to peer sent = address_text peer.address ∷ decimal peer.port ∷ hex_byte
 
 -- the line of an outcome that sends these bytes
 unfoldable pub answer_of : Outcome → List ℕ → List ℕ
-answer_of (Refused refusal) sent = line_text ((82 ∷ []) ∷ decimal (number refusal) ∷ [])
+answer_of (Refused number) sent = line_text ((82 ∷ []) ∷ decimal number ∷ [])
 -- `lapsed`, `never` and `other`
 answer_of DroppedLapsed sent = line_text ((68 ∷ []) ∷ (108 ∷ 97 ∷ 112 ∷ 115 ∷ 101 ∷ 100 ∷ []) ∷ [])
 answer_of DroppedNever sent = line_text ((68 ∷ []) ∷ (110 ∷ 101 ∷ 118 ∷ 101 ∷ 114 ∷ []) ∷ [])

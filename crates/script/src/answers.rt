@@ -90,9 +90,9 @@ pub(crate) fn put_answer(output: &mut [u8], outcome: Outcome, sent: &[u8]) -> us
     ensures { Sent (answer_of outcome sent.now) output.old output.new result }
 {
     match outcome {
-        Outcome::Refused(refusal) => {
+        Outcome::Refused(number) => {
             put_letter(output, 82, TAB);
-            2 + put_number(&mut output[2..], refusal.number() as u64, NEWLINE)
+            2 + put_number(&mut output[2..], number as u64, NEWLINE)
         }
         Outcome::DroppedLapsed => put_text(output, b"D\tlapsed\n"),
         Outcome::DroppedNever => put_text(output, b"D\tnever\n"),

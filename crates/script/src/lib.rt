@@ -77,11 +77,10 @@ pub fn run_line(
         return 0;
     }
     let mut buffer = [0u8; 1600];
-    match read_in(input, start, end, &mut buffer) {
-        Some(request) => {
-            let mut reply = [0u8; 1536];
-            answer_call(slots, bookkeeping, request, &buffer, &mut reply, output)
-        }
-        None => put_bad(output),
-    }
+    // The reply is made once there is a call: to fill it with zeros would cost a line of neither form as much again.
+    let Some(request) = read_in(input, start, end, &mut buffer) else {
+        return put_bad(output);
+    };
+    let mut reply = [0u8; 1536];
+    answer_call(slots, bookkeeping, request, &buffer, &mut reply, output)
 }

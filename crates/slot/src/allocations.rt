@@ -30,11 +30,14 @@ pub fn allocation_is_live(time: u64, allocation: Allocation) -> bool
 
 // Whether the allocation is live and has the 5-tuple.
 // One line each: a function over the test would need a contract about every test.
-#[tactic(auto, using(address::proofs::Laws::eq_five_tuple), unfolding(crate::specs::Slot::holds, choice::specs::Choice::both))]
+#[tactic(auto, using(address::proofs::Laws::eq_five_tuple, address::proofs::Laws::other_client_port), unfolding(crate::specs::Slot::holds, choice::specs::Choice::both))]
 pub fn holds(time: u64, five_tuple: FiveTuple, allocation: Allocation) -> bool
     ensures { result ≡ holds time five_tuple allocation }
 {
-    allocation_is_live(time, allocation) && allocation.five_tuple == five_tuple
+    // The ports are compared first: they tell clients of one address apart, and every slot up to the client's own is asked.
+    allocation_is_live(time, allocation)
+        && allocation.five_tuple.client.port == five_tuple.client.port
+        && allocation.five_tuple == five_tuple
 }
 
 // Whether the allocation is live and has the relay port.

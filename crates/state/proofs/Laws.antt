@@ -40,7 +40,7 @@ acted P st call s reply refused taken = go (numbered (refusal (clock_of st) l ca
 module _ (slots : List Slot) (kept : Bookkeeping) (call : Call) (s reply : List ℕ) {checked : Result Unit Refusal}
     (q : number_of checked ≡ refusal kept.clock (lengths (length slots) (length s) (length reply)) call) where
   -- refused: everything as it was
-  pub refused_step : {r : Refusal} → checked ≡ Err r → Stepped (state slots kept) call s (Refused r) (state slots kept) reply reply
+  pub refused_step : {r : Refusal} → checked ≡ Err r → Stepped (state slots kept) call s (Refused (number r)) (state slots kept) reply reply
   unfolding act
   refused_step {r} e =
       let n : refusal kept.clock (lengths (length slots) (length s) (length reply)) call ≡ number r = sym q ∙ ap number_of e in

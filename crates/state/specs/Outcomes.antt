@@ -1,6 +1,7 @@
 -- Document 01's table of 'What a call gives back': the outcome, the reply buffer, and the state afterwards.
 use Rattle.std.specs.Prelude.{ℕ, ◌≡◌, List}
 use Rattle.refusal.specs.declared.Refusal.{Refusal}
+use Rattle.refusal.specs.Refusal.{number}
 use Rattle.rules.specs.declared.answer.Outcome.{Outcome}
 use Rattle.rules.specs.declared.answer.Outcome.TheVariants.{Refused}
 use Rattle.rules.specs.Change as rules
@@ -14,7 +15,7 @@ pub data Act : Type 0 where
 
 -- its column 'Outcome'
 abbrev pub outcome_of : Act → Outcome
-outcome_of (refuse refusal) = Refused refusal
+outcome_of (refuse refusal) = Refused (number refusal)
 outcome_of (accept next out) = rules.outcome_of out
 
 -- 'Reply buffer'

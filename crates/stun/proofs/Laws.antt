@@ -132,9 +132,12 @@ within s (suc f) at = go (step_at s at) refl (within s f)
     go End e ih = All-nil In
     go Short e ih = All-nil In
 
-pub within_all : (s : List ℕ) → Within s (attributes s)
+pub within_from : (s : List ℕ) (at : ℕ) → Within s (attributes_from s at)
 unfolding attributes_from walk
-within_all s = within s (length s) 20
+within_from s at = within s (length s) at
+
+pub within_all : (s : List ℕ) → Within s (attributes s)
+within_all s = within_from s 20
 
 module _ (s : List ℕ) {l rest : List Attribute} {a : Attribute} (h : Within s l) (e : l ≡ a ∷ rest) where
   pub within_here : a.start + a.len ≤ length s

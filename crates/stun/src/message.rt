@@ -1,6 +1,6 @@
 // The layout of a STUN message: the test of its header and of the fit of its attributes, and the attributes that are read, in order.
 ghost use Rattle.std.specs.Prelude.{◌≡◌};
-ghost use Rattle.stun.specs.Message.{step_at, attributes_fit, is_well_formed, is_integrity, is_unknown, attributes, first_of};
+ghost use Rattle.stun.specs.Message.{step_at, attributes_fit, is_well_formed, is_integrity, is_unknown, attributes_from, attributes, first_of};
 ghost use Rattle.stun.specs.Inner.{attributes_left, unknowns};
 
 use crate::kinds::AttributeKind;
@@ -104,13 +104,17 @@ pub struct Attributes<'a> {
 }
 
 impl<'a> Attributes<'a> {
+    // Those from a place on.
+    pub(crate) fn starting_at(message: &'a [u8], at: usize) -> Self
+        ensures { attributes_left result ≡ attributes_from message.now at }
+    {
+        Attributes { message, at }
+    }
+
     pub fn of(message: &'a [u8]) -> Self
         ensures { attributes_left result ≡ attributes message.now }
     {
-        Attributes {
-            message,
-            at: crate::HEADER,
-        }
+        Attributes::starting_at(message, crate::HEADER)
     }
 }
 

@@ -1,6 +1,6 @@
 // The peers that a message names: the values of its XOR-PEER-ADDRESS attributes.
 ghost use Rattle.std.specs.Prelude.{◌≡◌, ◌≤◌, length};
-ghost use Rattle.stun.specs.Values.{peers, first_peer};
+ghost use Rattle.stun.specs.Values.{peers, peers_from, first_peer};
 ghost use Rattle.stun.specs.Inner.{attributes_left, Within};
 
 use crate::kinds::AttributeKind;
@@ -21,14 +21,22 @@ pub struct Peers<'a> {
 impl<'a> Peers<'a> {
     ghost use Rattle.stun.specs.Peers.{peers_left};
 
+    // Those of the attributes from a place on.
+    pub fn starting_at(message: &'a [u8], at: usize) -> Self
+        requires { 20 ≤ length message.now }
+        ensures { peers_left result ≡ peers_from message.now at }
+    {
+        Peers {
+            message,
+            attributes: Attributes::starting_at(message, at),
+        }
+    }
+
     pub fn of(message: &'a [u8]) -> Self
         requires { 20 ≤ length message.now }
         ensures { peers_left result ≡ peers message.now }
     {
-        Peers {
-            message,
-            attributes: Attributes::of(message),
-        }
+        Peers::starting_at(message, crate::HEADER)
     }
 }
 

@@ -6,6 +6,7 @@ ghost use Rattle.stun.specs.Inner.{Below};
 
 use crate::kinds::AttributeKind;
 use crate::message::first_attribute;
+pub use crate::peers::first_peer;
 use address::{Address, TransactionId, TransportAddress};
 use wire::Number;
 

@@ -9,7 +9,7 @@ use native.Mathlib.Omega.{arith}
 use borrow.Author.Tests.{eqb-true, eqb-false, eq-eqb, ne_eqb}
 use lib.Dec.{eqb}
 use lib.ListN.{length, get_or, set, take, length-take}
-use lib.Seq.{take-suc, length-take-le, get_or-set_same, get_or-set_other}
+use lib.Seq.{take-suc, take_all, length-take-le, get_or-set_same, get_or-set_other}
 use Rattle.choice.specs.Choice.{pick, both}
 use Rattle.slot.specs.declared.Allocation.{Allocation}
 use Rattle.slot.specs.declared.Slot.{Slot}
@@ -163,16 +163,21 @@ module _ (l : List Slot) (i : ℕ) {wanted : Wanted} {user : ℕ} {survey : Surv
       → SurveyedWith survey i wanted user (get_or l i d).allocation more → Surveyed (take (i + 1) l) wanted user more
   survey_next d within before next = rw (add-one, take-suc l i d) (next (take i l) (get_or l i d) (length-take-le i l (omega arith)) refl before)
 
+  pub survey_all : length l ≤ i → Surveyed (take i l) wanted user survey → Surveyed l wanted user survey
+  survey_all past before = rw (take_all i l past) at before
+
 -- ---- a look over the slots
-some_same : {a b : ℕ} → ◌≡◌ {A = Option ℕ} (Some a) (Some b) → a ≡ b
+pub some_same : {a b : ℕ} → ◌≡◌ {A = Option ℕ} (Some a) (Some b) → a ≡ b
 some_same e = cc
 
 none_some : {a : ℕ} → ◌≡◌ {A = Option ℕ} None (Some a) → ⊥
 none_some e = let z : ◌≡◌ {A = ℕ} 0 1 = cc in omega arith
 
-pub look_over : {l : List Slot} {wanted : Wanted} {user : ℕ} {survey : Survey} → wanted.room_for ≡ Some user → Surveyed l wanted user survey → Looked l wanted survey
+-- of the user whom room is wanted for, or, where none is wanted, of any
+pub look_over : {l : List Slot} {wanted : Wanted} {user : ℕ} {survey : Survey} → ((told : ℕ) → wanted.room_for ≡ Some told → told ≡ user) → Surveyed l wanted user survey
+    → Looked l wanted survey
 look_over {l} {wanted} {user} {survey} asked w =
-    record { own = w.own; room = λ told. subst (λ (u : ℕ). Surveyed l wanted u survey) (some_same (sym asked ∙ told)) w }
+    record { own = w.own; room = λ {user = told} e. subst (λ (u : ℕ). Surveyed l wanted u survey) (sym (asked told e)) w }
 
 pub look_found : {l : List Slot} {wanted : Wanted} {survey : Survey} {found : Option ℕ} → wanted.room_for ≡ None
     → found ≡ searched wanted.time wanted.key l → survey.own ≡ found → Looked l wanted survey

@@ -2,10 +2,10 @@
 use Prim.Native.Nat.{ℕ, zero, suc, ◌+◌, ◌-◌, ◌*◌, ◌/◌, ◌%◌, ◌^◌, ◌≤◌, ◌<◌}
 use mathlib.Core.Path.{◌≡◌, refl, sym, ap, ap₂, ◌∙◌}
 use mathlib.Core.List.{List, [], ◌∷◌, ◌++◌, append_assoc, append-nil}
-use lib.ListN.{length, get_or, take, drop, replicate, length-append, length-drop, drop_of_length-le}
-use lib.Seq.{get_or-append-add, take_at, drop_at, drop-drop, take_all, sets, sets-eq}
+use lib.ListN.{length, get_or, take, drop, replicate, length-append, length-drop, length-replicate, drop_of_length-le}
+use lib.Seq.{get_or-append-add, take_at, drop_at, drop-drop, take_all, take-length, sets, sets-eq}
 use native.Mathlib.Omega.{arith}
-use native.Mathlib.Nat.{suc-mul, pow-suc, zero-add, add_assoc, mod-mod, mod-eq_of_lt, mod-lt, mod-one, div-one, pow-succ', div-add-mod'}
+use native.Mathlib.Nat.{suc-add, suc-mul, pow-suc, add-zero, zero-add, zero-mul, add_assoc, mul_assoc, mul_comm, add-mul, div-div-eq-div-mul, mod-mod, mod-eq_of_lt, mod-lt, mod-one, div-one, pow-succ', div-add-mod'}
 use lib.Arith.{mod-mul, digits_div, digits_mod, bin_ind}
 use lib.Bits.{bit_xor, differ, xor_step, xor_self}
 use borrow.Rule.Slice.PartMut.{mid_of, put_mid}
@@ -27,6 +27,14 @@ all_same x (suc n) (suc i) = all_same x n i
 
 -- ---- reading
 
+-- a number of a + b bytes is one of a bytes, and then one of b bytes
+pub num-add : (s : List ℕ) (at a b : ℕ) → num s at (a + b) ≡ num s at a * 256 ^ b + num s (at + a) b
+unfolding num
+num-add s at zero b = simp (zero-add, zero-mul, add-zero)
+num-add s at (suc a) b =
+    let e : at + 1 + a ≡ at + suc a = omega arith in
+    rw (suc-add, num-add s (at + 1) a b, lib.Pow.pow-add 256 a b, e) (simp (add-mul, mul_assoc, add_assoc))
+
 -- behind p
 pub num-append : (p s : List ℕ) (at w : ℕ) → num (p ++ s) (length p + at) w ≡ num s at w
 unfolding num
@@ -39,6 +47,13 @@ pub length_bytes : (w n : ℕ) → length (bytes_of w n) ≡ w
 unfolding bytes_of
 length_bytes zero n = refl
 length_bytes (suc w) n = ap suc (length_bytes w n)
+
+-- n in a + b bytes is n / 256 ^ b in a bytes, and then n in b bytes
+pub bytes_add : (a b n : ℕ) → bytes_of (a + b) n ≡ bytes_of a (n / 256 ^ b) ++ bytes_of b n
+unfolding bytes_of
+bytes_add zero b n = rw zero-add
+bytes_add (suc a) b n =
+    rw (suc-add, bytes_add a b n, lib.Pow.pow-add 256 a b, div-div-eq-div-mul n (256 ^ b) (256 ^ a), mul_comm (256 ^ b) (256 ^ a))
 
 -- the higher digits do not count
 pub bytes_mod : (w n : ℕ) → bytes_of w (n % 256 ^ w) ≡ bytes_of w n
@@ -124,9 +139,25 @@ wrote_number w n h e = record { fits = rw length_bytes h; is = rw (length_bytes,
 pub wrote_sets : (A d : List ℕ) → length A ≤ length d → Wrote A d (sets d 0 A)
 wrote_sets A d h = record { fits = h; is = rw (sets-eq A d 0 (omega arith), zero-add) }
 
+-- a whole slice copied, as `bytes::copy` says it
+pub wrote_copy : (v d l : List ℕ) → length v ≤ length d → l ≡ take (length v) v ++ drop (length v) d → Wrote v d l
+wrote_copy v d l h e = record { fits = h; is = rw (take-length v) at e }
+
+-- zeros, one by one
+pub wrote_fill : (i n : ℕ) (d l : List ℕ) → i ≡ n → n ≤ length d → l ≡ replicate i 0 ++ drop i d → Wrote (replicate n 0) d l
+wrote_fill i n d l e h f = record { fits = rw length-replicate h; is = rw length-replicate (rw e at f) }
+
 pub bytes_one : (n : ℕ) → n < 256 → bytes_of 1 n ≡ n ∷ []
 unfolding bytes_of
 bytes_one n h = ap (λ (x : ℕ). x ∷ []) (rw div-one (mod-eq_of_lt h))
+
+pub bytes_two : (n : ℕ) → n < 65536 → bytes_of 2 n ≡ n / 256 ∷ n % 256 ∷ []
+unfolding bytes_of
+bytes_two n h = ap₂ (λ (x y : ℕ). x ∷ y ∷ []) (omega arith) (rw div-one)
+
+-- a number written as its upper and its lower half
+pub bytes_halves : (w n : ℕ) → bytes_of w (n / 256 ^ w) ++ bytes_of w (n % 256 ^ w) ≡ bytes_of (w + w) n
+bytes_halves w n = rw (bytes_mod, bytes_add)
 
 -- ---- a part
 

@@ -9,7 +9,7 @@ use Rattle.allocation_rules.proofs.allocate.Goals as goal
 
 pub returns-in-Err : goal.returns-in-Err
 unfolding allocate
-returns-in-Err c = answers_error _ _ _ _ (rw (c.is_some.ensures, c.repeated-again.ensures.again) at c.check_allocate.ensures) c.in-Err.is c.respond_error.ensures
+returns-in-Err c = answers_error _ _ _ _ (rw (c.is_some.ensures, c.repeated-again.ensures.again) at c.check_allocate.ensures) c.in-Err.is (rw c.number.ensures.is at c.respond_error.ensures)
 
 pub allocated-slot-requires : goal.allocated-slot-requires
 allocated-slot-requires c = let g : c.granted-seconds.result ≤ 3600 = rw c.granted-seconds.ensures (granted_small c.lifetime.result) in omega arith

@@ -7,7 +7,7 @@ use Rattle.allocation_rules.proofs.refresh.Goals as goal
 
 pub returns-in-Err : goal.returns-in-Err
 unfolding refresh
-returns-in-Err c = answers_error _ _ _ _ c.check_refresh.ensures.code c.in-Err.is c.respond_error.ensures
+returns-in-Err c = answers_error _ _ _ _ c.check_refresh.ensures.code c.in-Err.is (rw c.number.ensures.is at c.respond_error.ensures)
 
 pub refreshed-slot-requires : goal.refreshed-slot-requires
 refreshed-slot-requires c = let g : c.granted_refresh-seconds.result ≤ 3600 = rw c.granted_refresh-seconds.ensures (granted_refresh_small c.lifetime.result) in omega arith

@@ -6,7 +6,7 @@ use Rattle.relay.proofs.relay_datagram.Goals as goal
 pub returns-in-Err : goal.returns-in-Err
 returns-in-Err c =
     let a = c.args in
-    refused_step a.slots.now a.bookkeeping.now a.call a.datagram.now a.reply.now c.refusal.ensures c.in-Err.is
+    rw c.number.ensures (refused_step a.slots.now a.bookkeeping.now a.call a.datagram.now a.reply.now c.refusal.ensures c.in-Err.is)
 
 pub accept_call-requires : goal.accept_call-requires
 accept_call-requires c =

@@ -4,7 +4,7 @@ use Rattle.permission_rules.proofs.channels.channel_bind.Goals as goal
 
 pub returns-in-Err : goal.returns-in-Err
 unfolding channel_bind
-returns-in-Err c = answers_error _ _ _ _ c.bound.ensures.code c.in-Err.is c.respond_error.ensures
+returns-in-Err c = answers_error _ _ _ _ c.bound.ensures.code c.in-Err.is (rw c.number.ensures.is at c.respond_error.ensures)
 
 pub returns : goal.returns
 unfolding channel_bind

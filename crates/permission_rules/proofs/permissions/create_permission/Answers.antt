@@ -4,7 +4,7 @@ use Rattle.permission_rules.proofs.permissions.create_permission.Goals as goal
 
 pub returns-in-Err : goal.returns-in-Err
 unfolding create_permission
-returns-in-Err c = answers_error _ _ _ _ c.permitted.ensures.code c.in-Err.is c.respond_error.ensures
+returns-in-Err c = answers_error _ _ _ _ c.permitted.ensures.code c.in-Err.is (rw c.number.ensures.is at c.respond_error.ensures)
 
 pub returns : goal.returns
 unfolding create_permission

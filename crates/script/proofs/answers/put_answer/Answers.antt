@@ -6,7 +6,7 @@ use Rattle.script.proofs.answers.put_answer.Goals as goal
 
 pub returns-in-Refused : goal.returns-in-Refused
 unfolding line_text sent_to answer_of
-returns-in-Refused c = rw (c.in-Refused.is, ← c.number.ensures) (sent_then (record { wrote = c.put_letter.ensures; size = refl }) c.put_number.ensures.0)
+returns-in-Refused c = rw c.in-Refused.is (sent_then (record { wrote = c.put_letter.ensures; size = refl }) c.put_number.ensures.0)
 
 pub returns-in-DroppedLapsed : goal.returns-in-DroppedLapsed
 unfolding line_text answer_of
