@@ -7,7 +7,7 @@ ghost use Rattle.interface.specs.Sending.{sent};
 ghost use Rattle.state.specs.State.{state};
 ghost use Rattle.messages.specs.Inner.{Sent};
 ghost use Rattle.script.specs.Answers.{answer_of};
-ghost use Rattle.lines.specs.Lines.{line_of};
+ghost use Rattle.lines.specs.Lines.{asks, line_of};
 ghost use Rattle.lines.specs.Inner.{Reads};
 ghost use Rattle.script.specs.Inner.{Called};
 ghost use Rattle.script.specs.Run.{line_in, Runs};
@@ -62,6 +62,21 @@ fn answer_call(
     put_outcome(output, outcome, datagram, reply)
 }
 
+// The same with a reply of zeros. It is made here and not in `run_line`, where every line would pay for it, those of neither form too.
+fn answer_request(
+    slots: &mut [Slot],
+    bookkeeping: &mut Bookkeeping,
+    request: Request,
+    buffer: &[u8],
+    output: &mut [u8],
+) -> usize
+    requires { ((request.len ≤ length buffer.now) × (length buffer.now ≤ 1600)) × (4096 ≤ length output.old) }
+    ensures { Runs (asks request.call (take request.len buffer.now)) (state slots.old bookkeeping.old) (state slots.new bookkeeping.new) output.old output.new result }
+{
+    let mut reply = [0u8; 1536];
+    answer_call(slots, bookkeeping, request, buffer, &mut reply, output)
+}
+
 // The line from `start` to `end` of the input; how long the answer is.
 pub fn run_line(
     slots: &mut [Slot],
@@ -77,10 +92,8 @@ pub fn run_line(
         return 0;
     }
     let mut buffer = [0u8; 1600];
-    // The reply is made once there is a call: to fill it with zeros would cost a line of neither form as much again.
-    let Some(request) = read_in(input, start, end, &mut buffer) else {
-        return put_bad(output);
-    };
-    let mut reply = [0u8; 1536];
-    answer_call(slots, bookkeeping, request, &buffer, &mut reply, output)
+    match read_in(input, start, end, &mut buffer) {
+        Some(request) => answer_request(slots, bookkeeping, request, &buffer, output),
+        None => put_bad(output),
+    }
 }
