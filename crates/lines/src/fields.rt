@@ -5,7 +5,7 @@ ghost use Rattle.lines.specs.Fields.{word_at};
 ghost use Rattle.lines.specs.Inner.{split_field, number_field, read_address, address_field};
 
 use address::Address;
-use text::scan::find;
+use text::scan::find_far;
 use text::{is_hex, read_decimal, read_hex_word};
 
 const TAB: u8 = 9;
@@ -14,7 +14,7 @@ const TAB: u8 = 9;
 fn split_field(left: &[u8]) -> Option<(&[u8], &[u8])>
     ensures { option_map (λ p. (p.0.now, p.1.now)) result ≡ split_field left.now }
 {
-    let end = find(left, TAB);
+    let end = find_far(left, TAB);
     if end < left.len() {
         Some((&left[..end], &left[end + 1..]))
     } else {
