@@ -3,12 +3,12 @@
 // was found is lent, and it is written back where it changed.
 #![tactic(auto)]
 
-ghost use Rattle.std.specs.Prelude.{◌≡◌, ◌<◌, length, IsSome};
+ghost use Rattle.std.specs.Prelude.{◌≡◌, false, ◌<◌, length, IsSome};
 ghost use Rattle.state.specs.State.{state};
 ghost use Rattle.state.specs.Step.{Stepped};
 ghost use Rattle.table.specs.Inner.{Within};
-ghost use Rattle.decisions.specs.Inner.{Ready, UserFits, asked_for, place_in, Lent};
-ghost use Rattle.relay.specs.Inner.{LookedFor, WroteBack, Answered, DoesAccepted};
+ghost use Rattle.decisions.specs.Inner.{Ready, UserFits, asked_for, is_data, place_in, Lent};
+ghost use Rattle.relay.specs.Inner.{Saw, LookedFor, WroteBack, Answered, DoesAccepted};
 
 use decisions::{
     Asking, Seen, answer_call, asking_of, is_data, pass_data, place_for, wanted_by, with_survey,
@@ -51,6 +51,22 @@ fn found(slots: &[Slot], seen: Seen) -> Option<&Slot>
     }
 }
 
+// What becomes of a request. Its answer has room for a slot, which data, that writes none, would pay for.
+fn answer_request(
+    slots: &mut [Slot],
+    call: Call,
+    seen: Seen,
+    datagram: &[u8],
+    reply: &mut [u8],
+) -> Outcome
+    requires { (Ready call datagram.now reply.old × Saw slots.old call datagram.now seen) × (is_data seen.asked ≡ false) }
+    ensures { Answered seen.denied slots.old call datagram.now result slots.new reply.old reply.new }
+{
+    let own = found(slots, seen);
+    let answer = answer_call(datagram, reply, call, seen, own);
+    write_found(slots, seen, answer)
+}
+
 // What becomes of what a call asks, by the slot that was found. Data writes none.
 fn answer_asked(
     slots: &mut [Slot],
@@ -63,12 +79,10 @@ fn answer_asked(
     ensures { Answered asking.denied slots.old call datagram.now result slots.new reply.old reply.new }
 {
     let seen = look_for(slots, call, asking);
-    let own = found(slots, seen);
     if is_data(seen) {
-        return pass_data(datagram, reply, call, seen, own);
+        return pass_data(datagram, reply, call, seen, found(slots, seen));
     }
-    let answer = answer_call(datagram, reply, call, seen, own);
-    write_found(slots, seen, answer)
+    answer_request(slots, call, seen, datagram, reply)
 }
 
 // A call that is not refused: the clock is set, and the tree is read where it lies, so that a lookup touches its path alone.

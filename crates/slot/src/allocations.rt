@@ -34,9 +34,9 @@ pub fn allocation_is_live(time: u64, allocation: Allocation) -> bool
 pub fn holds(time: u64, five_tuple: FiveTuple, allocation: Allocation) -> bool
     ensures { result ≡ holds time five_tuple allocation }
 {
-    // The ports are compared first: they tell clients of one address apart, and every slot up to the client's own is asked.
-    allocation_is_live(time, allocation)
-        && allocation.five_tuple.client.port == five_tuple.client.port
+    // The port is compared first: it tells most clients apart, and every slot up to the client's own is asked.
+    allocation.five_tuple.client.port == five_tuple.client.port
+        && allocation_is_live(time, allocation)
         && allocation.five_tuple == five_tuple
 }
 
