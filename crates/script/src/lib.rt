@@ -9,7 +9,6 @@ ghost use Rattle.messages.specs.Inner.{Sent};
 ghost use Rattle.script.specs.Answers.{answer_of};
 ghost use Rattle.lines.specs.Lines.{asks, line_of};
 ghost use Rattle.lines.specs.Inner.{Reads};
-ghost use Rattle.script.specs.Inner.{Called};
 ghost use Rattle.script.specs.Run.{line_in, Runs};
 
 use answers::{put_answer, put_bad};
@@ -45,25 +44,9 @@ fn put_outcome(output: &mut [u8], outcome: Outcome, datagram: &[u8], reply: &[u8
     put_answer(output, outcome, what_to_send(outcome, datagram, reply))
 }
 
-// A call with the datagram at the front of a buffer.
+// A call with the datagram at the front of a buffer. Its reply is made here and not in `run_line`, where every line would pay for it, those of
+// neither form too.
 fn answer_call(
-    slots: &mut [Slot],
-    bookkeeping: &mut Bookkeeping,
-    request: Request,
-    buffer: &[u8],
-    reply: &mut [u8],
-    output: &mut [u8],
-) -> usize
-    requires { ((request.len ≤ length buffer.now) × (length buffer.now ≤ 1600)) × ((length reply.old ≤ 1600) × (4096 ≤ length output.old)) }
-    ensures { Called (state slots.old bookkeeping.old) request.call (take request.len buffer.now) (state slots.new bookkeeping.new) reply.old reply.new output.old output.new result }
-{
-    let datagram = &buffer[..request.len];
-    let outcome = relay_datagram(slots, bookkeeping, request.call, datagram, reply);
-    put_outcome(output, outcome, datagram, reply)
-}
-
-// The same with a reply of zeros. It is made here and not in `run_line`, where every line would pay for it, those of neither form too.
-fn answer_request(
     slots: &mut [Slot],
     bookkeeping: &mut Bookkeeping,
     request: Request,
@@ -74,7 +57,9 @@ fn answer_request(
     ensures { Runs (asks request.call (take request.len buffer.now)) (state slots.old bookkeeping.old) (state slots.new bookkeeping.new) output.old output.new result }
 {
     let mut reply = [0u8; 1536];
-    answer_call(slots, bookkeeping, request, buffer, &mut reply, output)
+    let datagram = &buffer[..request.len];
+    let outcome = relay_datagram(slots, bookkeeping, request.call, datagram, &mut reply);
+    put_outcome(output, outcome, datagram, &reply)
 }
 
 // The line from `start` to `end` of the input; how long the answer is.
@@ -93,7 +78,7 @@ pub fn run_line(
     }
     let mut buffer = [0u8; 1600];
     match read_in(input, start, end, &mut buffer) {
-        Some(request) => answer_request(slots, bookkeeping, request, &buffer, output),
+        Some(request) => answer_call(slots, bookkeeping, request, &buffer, output),
         None => put_bad(output),
     }
 }
