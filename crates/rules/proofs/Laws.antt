@@ -79,6 +79,23 @@ number_small PeerAddressFamilyMismatch = (omega arith, omega arith)
 number_small AllocationQuotaReached = (omega arith, omega arith)
 number_small InsufficientCapacity = (omega arith, omega arith)
 
+-- 420 is the number of one code
+pub unknown_number : {code : ErrorCode} → code ≡ UnknownAttribute → number code ≡ 420
+unknown_number e = rw e
+
+pub other_number : (code : ErrorCode) → (code ≡ UnknownAttribute → ⊥) → eqb (number code) 420 ≡ false
+other_number BadRequest n = refl
+other_number Unauthorized n = refl
+other_number Forbidden n = refl
+other_number UnknownAttribute n = absurd (n refl)
+other_number AllocationMismatch n = refl
+other_number AddressFamilyNotSupported n = refl
+other_number WrongCredentials n = refl
+other_number UnsupportedTransportProtocol n = refl
+other_number PeerAddressFamilyMismatch n = refl
+other_number AllocationQuotaReached n = refl
+other_number InsufficientCapacity n = refl
+
 -- ---- The answer to a request, by what its checks gave
 module _ (fiveTuple : FiveTuple) (method : Method) (s : List ℕ) (accepted : Change) {n : ℕ} {before after : List ℕ} {answer : Answer} {A : Type 0} {checked : Result A ErrorCode}
     (q : code_of checked ≡ n) where
